@@ -1,0 +1,4 @@
+pub mod Faults
+pub mod Media
+pub mod Memory
+pub mod Parts
