@@ -63,3 +63,8 @@ blocks-put bs d b h e =
       ∙ chunks-put (fitting bs) bs b d h (omega arith) e
     , ap (λ n. drop (256 * n) (putMid (b * 256) 256 bs d)) same
       ∙ drop-putMid (b * 256) 256 bs d (256 * fitting bs) (omega arith) (omega arith) e )
+
+pub chunks-whole : (bs : List ℕ) (b : ℕ) → b < length (blocksOf bs) → length (getD (blocksOf bs) b []) ≡ 256
+chunks-whole bs b h =
+    let n = length-chunks (fitting bs) bs in
+    ap length (getD-chunks (fitting bs) bs b (omega arith)) ∙ simp (length-take, length-drop) (omega arith)

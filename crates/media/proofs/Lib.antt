@@ -1,3 +1,4 @@
 pub mod ChunkLaws
 pub mod MediaLaws
 pub mod PartLaws
+pub mod PlanLaws

@@ -17,7 +17,7 @@ use Rattle.std.specs.Options.{mapped}
 use Rattle.media.specs.declared.fate.Fate.{Fate}
 use Rattle.media.specs.declared.fault.Fault.the-variants.{NoSuchBlock, WrongLength, PowerLost}
 use Rattle.media.specs.Faults.{Report, report}
-use Rattle.media.specs.Media.{Device, blockCount, blockAt, check, readFault, readInto, dies, lands, writeFault, begins, fated, afterWrite, WroteBy}
+use Rattle.media.specs.Media.{Device, Whole, blockCount, blockAt, check, readFault, readInto, dies, lands, writeFault, begins, fated, afterWrite, WroteBy}
 use Rattle.media.specs.Parts.{partOf, retell, SameOutside}
 
 module _ (a n : ℕ) (m : Device) where
@@ -116,3 +116,7 @@ module _ (a n : ℕ) (m : Device) where
         kept g e true true = e
         kept g e true false = refl
         kept g e false u = refl
+
+-- the blocks of a partition are blocks of the medium
+pub part-of-whole : (a n : ℕ) (m : Device) → Whole m → Whole (partOf a n m)
+part-of-whole a n m w b there = let f = part-fits a n m b there in ap length (part-at a n m b there) ∙ w (a + b) (omega arith)

@@ -1,5 +1,5 @@
 -- A medium: blocks of 256 bytes, live or dead, and what reading, writing and power-on do to it.
-use Prim.Native.Nat.{ℕ}
+use Prim.Native.Nat.{ℕ, _<_}
 use mathlib.Core.Path.{_≡_}
 use mathlib.Core.Bool.{Bool, true, false, not, cond, _&&_}
 use mathlib.Core.List.{List, []}
@@ -22,6 +22,10 @@ blockCount m = length (m .blocks)
 
 abbrev pub blockAt : Device → ℕ → List ℕ
 blockAt m b = getD (m .blocks) b []
+
+-- each block has 256 bytes
+abbrev pub Whole : Device → Type 0
+Whole m = (b : ℕ) → b < blockCount m → length (blockAt m b) ≡ 256
 
 -- a check of a call: where it fails, its report comes ahead of the checks behind it
 abbrev pub check : Bool → Report → Option Report → Option Report

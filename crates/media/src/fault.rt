@@ -2,10 +2,11 @@
 ghost use mathlib.Core.Path.{_≡_};
 ghost use Rattle.std.specs.declared.option.Option.the-variants.{Some};
 ghost use Rattle.media.specs.Faults.{report, text};
+ghost use Rattle.std.specs.Orderings.{Decides};
 use std::fmt;
 
 // One case for each cause, with what it returns.
-#[derive(Clone, Copy, PartialEq, Eq, Debug)]
+#[derive(Clone, Copy, Debug)]
 pub enum Fault {
     // a page above 63
     NoSuchPage(u32),
@@ -122,6 +123,15 @@ impl Fault {
             Fault::RedoRefused(_, code) => code,
             _ => 0,
         }
+    }
+}
+
+// Two faults are equal where they report the same.
+pub impl PartialEq<Fault> for Fault as FaultPartialEq {
+    ghost equals = { λ f g r. Decides r (report f ≡ report g) };
+
+    fn eq(&self, other: &Fault) -> bool {
+        self.number() == other.number() && self.place() == other.place() && self.code() == other.code()
     }
 }
 

@@ -1,7 +1,7 @@
 // A block medium: 256-byte blocks from 0, their count, live or dead.
 ghost use mathlib.Core.Path.{_≡_};
 ghost use Rattle.media.specs.Faults.{refusal};
-ghost use Rattle.media.specs.Media.{Device, blockCount, readFault, readInto, Wrote, powered};
+ghost use Rattle.media.specs.Media.{Device, Whole, blockCount, readFault, readInto, Wrote, powered};
 use crate::fault::Fault;
 
 // The bytes of a block.
@@ -13,7 +13,8 @@ pub trait Medium {
 
     // How many blocks there are; this never changes.
     fn count(&self) -> usize
-        ensures { λ r. ⌜ r ≡ blockCount (model (now (self .entry))) ⌝ };
+        ensures count { λ r. ⌜ r ≡ blockCount (model (now (self .entry))) ⌝ }
+        ensures whole { λ _. ⌜ Whole (model (now (self .entry))) ⌝ };
 
     // Reads a block, live or dead.
     fn read(&self, block: usize, buffer: &mut [u8]) -> Result<(), Fault>

@@ -1,7 +1,7 @@
 // Some blocks of another medium, counted from 0 again.
 ghost use mathlib.Core.Path.{_≡_};
 ghost use Rattle.media.specs.Faults.{refusal, report};
-ghost use Rattle.media.specs.Media.{Wrote, powered, blockCount};
+ghost use Rattle.media.specs.Media.{Wrote, Whole, powered, blockCount};
 ghost use Rattle.media.specs.Parts.{partOf, retell, SameOutside};
 ghost use Prim.Native.Nat.{ℕ, _+_, _^_, _<_};
 use crate::fault::Fault;
@@ -39,6 +39,7 @@ impl<M: Medium> Partition<M> {
     // How many blocks the partition has: none where the medium is too short for it.
     fn length(&self) -> usize
         ensures count { λ r. ⌜ r ≡ blockCount (partOf (now (self .entry) .first) (now (self .entry) .blocks) (M·Medium .model (now (self .entry) .medium))) ⌝ }
+        ensures whole { λ _. ⌜ Whole (partOf (now (self .entry) .first) (now (self .entry) .blocks) (M·Medium .model (now (self .entry) .medium))) ⌝ }
         ensures room { λ r. ⌜ ((b : ℕ) → b < r → now (self .entry) .first + b < 2 ^ 64) ⌝ }
     {
         let count = self.medium.count();

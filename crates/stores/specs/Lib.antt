@@ -1,0 +1,4 @@
+pub mod Images
+pub mod Layout
+pub mod Stores
+pub mod Plans

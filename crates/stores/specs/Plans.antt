@@ -1,0 +1,40 @@
+-- The block writes of an install, in order, for the journal store and for the shadow store.
+use Prim.Native.Nat.{ℕ, zero, suc}
+use mathlib.Core.Bool.{Bool, not, cond}
+use mathlib.Core.List.{List, [], _∷_, _++_, map}
+use lib.Dec.{eqb}
+use lib.Bits.{bitXor}
+use Rattle.sets.specs.Sets.{has, pages}
+use Rattle.media.specs.Plans.{Write}
+use Rattle.stores.specs.Images.{imageOf, pictured}
+use Rattle.stores.specs.Layout.{blockIn, setIn, setBlock, slot}
+
+-- page by page, rising: the image of each page of the set s into its block, upper where the page is in u
+abbrev pub imageWrites : ℕ → ℕ → (ℕ → List ℕ) → List Write
+imageWrites u s f = map (λ p. record { block = slot u p; bytes = f p }) (pages s)
+
+-- a set into block 128
+abbrev pub setWrite : ℕ → Write
+setWrite s = record { block = 128; bytes = setBlock s }
+
+-- every page, as a set: the upper blocks throughout
+abbrev pub everyPage : ℕ
+everyPage = 18446744073709551615
+
+-- Journal store: homes in blocks 0 to 63, staged images in 64 to 127, the mark in block 128.
+-- To settle a mark is to copy the staged images of its pages home and to clear it.
+abbrev pub settleWrites : List (List ℕ) → List Write
+settleWrites bs = cond (eqb (setIn bs) 0) [] (imageWrites 0 (setIn bs) (λ p. imageOf (blockIn bs (slot everyPage p))) ++ (setWrite 0 ∷ []))
+
+-- settle, stage, mark, copy home, clear the mark
+abbrev pub journalWrites : List (List ℕ) → ℕ → List ℕ → List Write
+journalWrites bs set images =
+    cond (eqb set 0) []
+    (settleWrites bs ++ (imageWrites everyPage set (pictured images) ++ (setWrite set ∷ (imageWrites 0 set (pictured images) ++ (setWrite 0 ∷ [])))))
+
+-- Shadow store: two frames for each page, p and 64 + p; block 128 holds the set of the pages that are in the upper one.
+-- The other frames take the images, and then block 128 turns to them.
+abbrev pub shadowWrites : List (List ℕ) → ℕ → List ℕ → List Write
+shadowWrites bs set images =
+    cond (eqb set 0) []
+    (imageWrites (bitXor (setIn bs) everyPage) set (pictured images) ++ (setWrite (bitXor (setIn bs) set) ∷ []))
