@@ -9,14 +9,14 @@ use lib.Dec.{eqb, leb, ltb}
 use lib.ListN.{length, getD, set, take}
 use Rattle.std.proofs.shelf.Lists.{length-set, getD-set-same, getD-set-other, append-nil}
 use Rattle.std.proofs.shelf.Tests.{lt-ltb, lt-leb, le-leb, eq-eqb, true≢false}
-use Rattle.std.proofs.shelf.Ways.{tells}
+use Rattle.std.specs.shelf.Lists.{All}
 use Rattle.std.specs.declared.option.Option.{Option}
 use Rattle.std.specs.declared.option.Option.the-variants.{Some, None}
 use Rattle.media.specs.declared.fate.Fate.{Fate}
 use Rattle.media.specs.declared.fate.Fate.the-variants.{Lives, DiesOld, DiesNew}
 use Rattle.media.specs.declared.fault.Fault.the-variants.{PowerLost}
 use Rattle.media.specs.Faults.{Report, report}
-use Rattle.media.specs.Media.{Device, blockCount, blockAt, check, dies, lands, writeFault, begins, fated, afterWrite, WroteBy}
+use Rattle.media.specs.Media.{Device, blockCount, blockAt, check, dies, lands, writeFault, begins, fated, afterWrite, WroteBy, Wrote}
 use Rattle.media.specs.Plans.{Write, Ran, put, puts, Fitting, Throughout}
 use Rattle.media.specs.Plans.Ran.{done, stops, goes}
 
@@ -181,3 +181,50 @@ atomic see bs before w after t u =
       ( inl (throughout-last (λ x. see x ≡ see bs) bs before t)
       , subst (λ x. Throughout P x after) (puts-append bs before (w ∷ []))
         (throughout-weaker (λ x. see x ≡ see (puts bs (before ++ w ∷ []))) P (λ x e. inr e) (puts bs (before ++ w ∷ [])) after u) )
+
+-- ---- on any medium
+
+-- no write changes the count
+after-count : (f : Fate) (m : Device) (b : ℕ) (d : List ℕ) → blockCount (afterWrite f m b d) ≡ blockCount m
+after-count f m b d = go (begins m b d) (lands f)
+  where
+    go : (t u : Bool) → length (cond t (record { blocks = cond u (set (m .blocks) b d) (m .blocks); live = not (dies f) }) m .blocks) ≡ length (m .blocks)
+    go true true = length-set (m .blocks) b d
+    go true false = refl
+    go false u = refl
+
+pub ran-count : {m m′ : Device} {ws : List Write} {o : Option Report} → Ran m ws o m′ → blockCount m′ ≡ blockCount m
+ran-count done = refl
+ran-count {m} (stops {w} f h) = ap blockCount (h .after) ∙ after-count f m (w .block) (w .bytes)
+ran-count {m} (goes {w} f h rest) = ran-count rest ∙ ap blockCount (h .after) ∙ after-count f m (w .block) (w .bytes)
+
+-- a run that writes something passes only on a live medium
+pub ran-lives : (n : ℕ) {m m′ : Device} {ws : List Write} {o : Option Report} → Ran m ws o m′ → o ≡ None → blockCount m ≡ n → Fitting n ws → 0 < length ws → m .live ≡ true
+unfolding Fitting
+ran-lives n done z e fit some = absurd (omega arith)
+ran-lives n (stops f h) z e fit some = absurd (let x : _≡_ {A = ℕ} 0 1 = cc in omega arith)
+ran-lives n {m} (goes {m₁} {w} f h rest) z e fit some = passed f m m₁ w (omega (arith, fit .0 .0)) (fit .0 .1) h .0
+
+-- one write, as a call of a medium tells it
+pub ran-wrote : (w : Write) (m m′ : Device) (b : ℕ) (d : List ℕ) (o : Option Report) → Wrote m b d o m′ → b ≡ w .block → d ≡ w .bytes → Ran m (w ∷ []) o m′
+ran-wrote w m m′ b d o h eb ed = ran-one w m m′ o (h .0) (subst (λ x. WroteBy (h .0) m x (w .bytes) o m′) eb (subst (λ x. WroteBy (h .0) m b x o m′) ed (h .1)))
+
+-- a block that no write names stays as it was
+after-other : (f : Fate) (m : Device) (a : ℕ) (d : List ℕ) (b : ℕ) → (a ≡ b → ⊥) → blockAt (afterWrite f m a d) b ≡ blockAt m b
+after-other f m a d b ne = go (begins m a d) (lands f)
+  where
+    go : (t u : Bool) → getD (cond t (record { blocks = cond u (set (m .blocks) a d) (m .blocks); live = not (dies f) }) m .blocks) b [] ≡ getD (m .blocks) b []
+    go true true = getD-set-other (m .blocks) a b d [] (λ e. ne (sym e))
+    go true false = refl
+    go false u = refl
+
+pub ran-keeps : (b : ℕ) {m m′ : Device} {ws : List Write} {o : Option Report} → Ran m ws o m′ → All (λ w. w .block ≡ b → ⊥) ws → blockAt m′ b ≡ blockAt m b
+ran-keeps b done apart = refl
+ran-keeps b {m} (stops {w} f h) apart = ap (λ x. blockAt x b) (h .after) ∙ after-other f m (w .block) (w .bytes) b (apart .0)
+ran-keeps b {m} (goes {w} f h rest) apart = ran-keeps b rest (apart .1) ∙ ap (λ x. blockAt x b) (h .after) ∙ after-other f m (w .block) (w .bytes) b (apart .0)
+
+-- nothing written
+pub ran-nothing : {m m′ : Device} {ws : List Write} {o : Option Report} → Ran m ws o m′ → ws ≡ [] → (o ≡ None) × (m′ ≡ m)
+ran-nothing done e = (refl, refl)
+ran-nothing (stops f h) e = absurd (let z : _≡_ {A = ℕ} 0 1 = cc in omega arith)
+ran-nothing (goes f h rest) e = absurd (let z : _≡_ {A = ℕ} 0 1 = cc in omega arith)

@@ -1,8 +1,13 @@
 -- The laws of sets of pages. Only this file looks at bits.
 use Prim.Native.Nat.{ℕ, zero, suc, _+_, _-_, _*_, _/_, _%_, _^_, _≤_, _<_}
-use mathlib.Core.Path.{_≡_, refl, sym, ap, _∙_, fun-ext}
+use mathlib.Core.Path.{_≡_, refl, sym, ap, ap₂, _∙_, fun-ext}
 use mathlib.Core.Bool.{Bool, true, false, cond, not, _&&_, _||_}
 use mathlib.Core.Logic.{_⊎_, inl, inr}
+use mathlib.Core.List.{[], _∷_, _++_}
+use lib.ListN.{length}
+use Rattle.std.specs.shelf.Lists.{All}
+use Rattle.std.proofs.shelf.Lists.{length-append}
+use Rattle.std.proofs.shelf.Elements.{all-append, all-weaker}
 use native.Mathlib.Nat.{mod-lt, pow-suc, zero-add}
 use native.Mathlib.Numerals.{add-one, one-add}
 use native.Mathlib.Omega.{arith}
@@ -279,3 +284,35 @@ has-shl p q l = ap (λ x. has x q) (one-shl p 64 l) ∙ has-one p q ∙ sym (ap 
 
 pub has-no-page : (p q : ℕ) → 64 ≤ p → has 0 q ≡ (eqb q p && ltb p 64)
 has-no-page p q l = has-none q ∙ sym (and-right (eqb q p) (ltb p 64) (le-ltb p 64 l))
+
+-- ---- the pages of a set, rising
+
+pub rising-none : (f : ℕ → Bool) → rising f 0 ≡ []
+unfolding rising
+rising-none f = refl
+
+pub rising-more : (f : ℕ → Bool) (n : ℕ) → rising f (n + 1) ≡ rising f n ++ cond (f n) (n ∷ []) []
+unfolding rising
+rising-more f n = ap (rising f) (add-one n)
+
+-- as many as there are, each of them in the set, and rising
+pub rising-count : (f : ℕ → Bool) (n : ℕ) → length (rising f n) ≡ count f n
+unfolding rising count
+rising-count f zero = refl
+rising-count f (suc n) = length-append (rising f n) (cond (f n) (n ∷ []) []) ∙ ap₂ _+_ (rising-count f n) (out (f n))
+  where
+    out : (t : Bool) → length (cond t (n ∷ []) []) ≡ cond t 1 0
+    out true = refl
+    out false = refl
+
+pub rising-all : (f : ℕ → Bool) (n : ℕ) → All (λ p. (p < n) × (f p ≡ true)) (rising f n)
+unfolding rising
+rising-all f zero = tt
+rising-all f (suc n) =
+    all-append (λ p. (p < suc n) × (f p ≡ true)) (rising f n) (cond (f n) (n ∷ []) [])
+      (all-weaker (λ p. (p < n) × (f p ≡ true)) (λ p. (p < suc n) × (f p ≡ true)) (λ p h. (omega arith, h .1)) (rising f n) (rising-all f n))
+      (here (f n) refl)
+  where
+    here : (t : Bool) → f n ≡ t → All (λ p. (p < suc n) × (f p ≡ true)) (cond t (n ∷ []) [])
+    here true e = ((omega arith, e), tt)
+    here false e = tt

@@ -12,7 +12,7 @@ use Rattle.std.proofs.shelf.Tests.{cases-lt, cases-bool, lt-ltb, le-ltb, both-w
 use Rattle.sets.specs.Sets.{has}
 use Rattle.sets.specs.Words.{number, bytesOf}
 use Rattle.sets.proofs.WordLaws.{bytes-length, number-bytes}
-use Rattle.sets.proofs.SetLaws.{has-within}
+use Rattle.sets.proofs.SetLaws.{has-none, has-not}
 use Rattle.stores.specs.Images.{imageOf, blank, pictured}
 use Rattle.stores.specs.Layout.{blockIn, setIn, setBlock, slot, pageIn}
 
@@ -102,10 +102,14 @@ put-spare bs u p d h spare = (pages-same (set bs (slot u p) d) bs (λ q l. page-
     same = put-below bs (slot u p) d (slot-below u p h)
 
     not-self : (t : Bool) → t ≡ not t → ⊥
-    not-self true e = both-ways true (sym e) refl
+    not-self true e = both-ways true e refl
     not-self false e = both-ways false refl e
 
     apart : (q : ℕ) → q < 64 → slot (setIn bs) q ≡ slot u p → ⊥
     apart q l e =
         let s = slot-same (setIn bs) u q p l h e in
         not-self (has (setIn bs) p) (sym (ap (λ x. has (setIn bs) x) (s .0)) ∙ s .1 ∙ spare)
+
+-- every page is in the set of all of them
+pub every : (p : ℕ) → p < 64 → has 18446744073709551615 p ≡ true
+every p l = has-not 64 0 p (omega arith) l ∙ ap not (has-none p)

@@ -1,1 +1,4 @@
 pub mod LayoutLaws
+pub mod PlanLaws
+pub mod StoreLaws
+pub mod BlockLaws

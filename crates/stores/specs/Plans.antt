@@ -9,9 +9,17 @@ use Rattle.media.specs.Plans.{Write}
 use Rattle.stores.specs.Images.{imageOf, pictured}
 use Rattle.stores.specs.Layout.{blockIn, setIn, setBlock, slot}
 
--- page by page, rising: the image of each page of the set s into its block, upper where the page is in u
+-- the image of page p into its block, upper where the page is in u
+abbrev pub imageWrite : ℕ → (ℕ → List ℕ) → ℕ → Write
+imageWrite u f p = record { block = slot u p; bytes = f p }
+
+-- the same for a page of the set s, and nothing for another
+abbrev pub ofPage : ℕ → ℕ → (ℕ → List ℕ) → ℕ → List Write
+ofPage u s f p = cond (has s p) (imageWrite u f p ∷ []) []
+
+-- the images of the pages of the set s, rising
 abbrev pub imageWrites : ℕ → ℕ → (ℕ → List ℕ) → List Write
-imageWrites u s f = map (λ p. record { block = slot u p; bytes = f p }) (pages s)
+imageWrites u s f = map (imageWrite u f) (pages s)
 
 -- a set into block 128
 abbrev pub setWrite : ℕ → Write
@@ -38,3 +46,14 @@ abbrev pub shadowWrites : List (List ℕ) → ℕ → List ℕ → List Write
 shadowWrites bs set images =
     cond (eqb set 0) []
     (imageWrites (bitXor (setIn bs) everyPage) set (pictured images) ++ (setWrite (bitXor (setIn bs) set) ∷ []))
+
+-- ---- the blocks that an install writes, in order; they are the same whatever the images are
+
+abbrev pub blocksIn : List Write → List ℕ
+blocksIn ws = map (λ w. w .block) ws
+
+abbrev pub journalPlan : List (List ℕ) → ℕ → List ℕ
+journalPlan bs set = blocksIn (journalWrites bs set [])
+
+abbrev pub shadowPlan : List (List ℕ) → ℕ → List ℕ
+shadowPlan bs set = blocksIn (shadowWrites bs set [])

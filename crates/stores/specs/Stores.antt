@@ -11,6 +11,8 @@ use Rattle.sets.specs.Sets.{has}
 use Rattle.media.specs.declared.fault.Fault.the-variants.{NoSuchPage, WrongLength, PowerLost, TooShort}
 use Rattle.media.specs.Faults.{Report, report}
 use Rattle.media.specs.Media.{Device, blockCount, check}
+use Rattle.std.specs.Options.{Cases}
+use Rattle.media.specs.Plans.{Write, Ran}
 use Rattle.stores.specs.Images.{blank, pictured}
 use Rattle.stores.specs.Layout.{pageIn}
 
@@ -116,6 +118,19 @@ pub record InstalledBy (e : Ending) (s : Store) (plan : List ℕ) (set : ℕ) (i
 -- the same with some ending
 abbrev pub Installed : Store → List ℕ → ℕ → List ℕ → Option Report → Store → Type 0
 Installed s plan set images o s′ = (e : Ending) × InstalledBy e s plan set images o s′
+
+-- ---- the same, block by block
+
+-- the checks ahead of the first write
+abbrev pub installCheck : Device → List ℕ → Option Report
+installCheck m images =
+    check (not (eqb (length images) 16384)) (report (WrongLength (length images)))
+    (check (not (leb 129 (blockCount m))) (report TooShort)
+    None)
+
+-- an install that passes its checks runs just the writes ws on the medium; one that does not writes nothing
+abbrev pub Carried : Device → List Write → List ℕ → Option Report → Device → Type 0
+Carried m ws images o m′ = Cases (installCheck m images) (Ran m ws o m′) (λ r. (o ≡ Some r) × (m′ ≡ m))
 
 -- ---- power-on: a dead store lives, and no image changes
 
