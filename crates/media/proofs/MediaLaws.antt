@@ -11,8 +11,8 @@ use Rattle.std.proofs.shelf.Tests.{and-parts, and-right, ltb-true, eqb-true}
 use Rattle.std.specs.declared.option.Option.{Option}
 use Rattle.std.specs.declared.option.Option.the-variants.{Some, None}
 use Rattle.media.specs.declared.fate.Fate.{Fate}
-use Rattle.media.specs.declared.fault.Fault.the-variants.{NoSuchBlock, WrongLength, PowerLost}
-use Rattle.media.specs.Faults.{Report, report}
+use Rattle.faults.specs.declared.fault.Fault.the-variants.{NoSuchBlock, WrongLength, PowerLost}
+use Rattle.faults.specs.Faults.{Report, report}
 use Rattle.media.specs.Media.{Device, blockCount, blockAt, check, readFault, readInto, dies, lands, writeFault, begins, fated, afterWrite, WroteBy}
 
 module _ (m : Device) (b : ℕ) (buffer : List ℕ) where

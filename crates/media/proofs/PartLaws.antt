@@ -15,8 +15,8 @@ use Rattle.std.specs.declared.option.Option.{Option}
 use Rattle.std.specs.declared.option.Option.the-variants.{Some, None}
 use Rattle.std.specs.Options.{mapped}
 use Rattle.media.specs.declared.fate.Fate.{Fate}
-use Rattle.media.specs.declared.fault.Fault.the-variants.{NoSuchBlock, WrongLength, PowerLost}
-use Rattle.media.specs.Faults.{Report, report}
+use Rattle.faults.specs.declared.fault.Fault.the-variants.{NoSuchBlock, WrongLength, PowerLost}
+use Rattle.faults.specs.Faults.{Report, report}
 use Rattle.media.specs.Media.{Device, Whole, blockCount, blockAt, check, readFault, readInto, dies, lands, writeFault, begins, fated, afterWrite, WroteBy}
 use Rattle.media.specs.Parts.{partOf, retell, SameOutside}
 

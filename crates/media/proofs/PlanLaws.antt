@@ -14,8 +14,8 @@ use Rattle.std.specs.declared.option.Option.{Option}
 use Rattle.std.specs.declared.option.Option.the-variants.{Some, None}
 use Rattle.media.specs.declared.fate.Fate.{Fate}
 use Rattle.media.specs.declared.fate.Fate.the-variants.{Lives, DiesOld, DiesNew}
-use Rattle.media.specs.declared.fault.Fault.the-variants.{PowerLost}
-use Rattle.media.specs.Faults.{Report, report}
+use Rattle.faults.specs.declared.fault.Fault.the-variants.{PowerLost}
+use Rattle.faults.specs.Faults.{Report, report}
 use Rattle.media.specs.Media.{Device, blockCount, blockAt, check, dies, lands, writeFault, begins, fated, afterWrite, WroteBy, Wrote}
 use Rattle.media.specs.Plans.{Write, Ran, put, puts, Fitting, Throughout}
 use Rattle.media.specs.Plans.Ran.{done, stops, goes}

@@ -1,4 +1,3 @@
-pub mod Faults
 pub mod Media
 pub mod Memory
 pub mod Parts

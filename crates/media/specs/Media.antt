@@ -9,8 +9,8 @@ use Rattle.std.specs.declared.option.Option.{Option}
 use Rattle.std.specs.declared.option.Option.the-variants.{Some, None}
 use Rattle.media.specs.declared.fate.Fate.{Fate}
 use Rattle.media.specs.declared.fate.Fate.the-variants.{Lives, DiesOld, DiesNew}
-use Rattle.media.specs.declared.fault.Fault.the-variants.{NoSuchBlock, WrongLength, PowerLost}
-use Rattle.media.specs.Faults.{Report, report}
+use Rattle.faults.specs.declared.fault.Fault.the-variants.{NoSuchBlock, WrongLength, PowerLost}
+use Rattle.faults.specs.Faults.{Report, report}
 
 -- the blocks from 0 on, and whether the medium is live
 pub record Device : Type 0 where

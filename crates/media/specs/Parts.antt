@@ -5,8 +5,8 @@ use mathlib.Core.List.{List, []}
 use mathlib.Core.Path.{_≡_}
 use lib.Dec.{eqb, leb}
 use lib.ListN.{take, drop}
-use Rattle.media.specs.declared.fault.Fault.the-variants.{PowerLost}
-use Rattle.media.specs.Faults.{Report, report}
+use Rattle.faults.specs.declared.fault.Fault.the-variants.{PowerLost}
+use Rattle.faults.specs.Faults.{Report, report}
 use Rattle.media.specs.Media.{Device, blockCount}
 
 -- the partition of n blocks from block a on

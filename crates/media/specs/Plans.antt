@@ -6,7 +6,7 @@ use lib.ListN.{length, set}
 use Rattle.std.specs.declared.option.Option.{Option}
 use Rattle.std.specs.declared.option.Option.the-variants.{Some, None}
 use Rattle.media.specs.declared.fate.Fate.{Fate}
-use Rattle.media.specs.Faults.{Report}
+use Rattle.faults.specs.Faults.{Report}
 use Rattle.media.specs.Media.{Device, WroteBy}
 
 -- new bytes for a block

@@ -1,6 +1,5 @@
-// Faults, block media and runs of block writes.
+// Block media: the memory medium with its fuse, and partitions.
 mod fate;
-mod fault;
 mod fuse;
 mod medium;
 mod memory;
@@ -9,10 +8,6 @@ mod partition;
 pub use fate::Fate;
 pub use fate::FateDebug;
 pub use fate::FatePartialEq;
-pub use fault::Fault;
-pub use fault::FaultDebug;
-pub use fault::FaultDisplay;
-pub use fault::FaultPartialEq;
 pub use fuse::Fuse;
 pub use fuse::FuseDebug;
 pub use fuse::FusePartialEq;

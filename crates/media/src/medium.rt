@@ -1,8 +1,8 @@
 // A block medium: 256-byte blocks from 0, their count, live or dead.
 ghost use mathlib.Core.Path.{_≡_};
-ghost use Rattle.media.specs.Faults.{refusal};
+ghost use Rattle.faults.specs.Faults.{refusal};
 ghost use Rattle.media.specs.Media.{Device, Whole, blockCount, readFault, readInto, Wrote, powered};
-use crate::fault::Fault;
+use faults::Fault;
 
 // The bytes of a block.
 pub const BLOCK: usize = 256;

@@ -6,11 +6,11 @@ ghost use lib.ListN.{length, set, getD};
 ghost use mathlib.Core.List.{[]};
 ghost use denote.Ref.{now as held, name};
 ghost use Rattle.media.specs.declared.fuse.Fuse.the-variants.{Absent, Armed};
-ghost use Rattle.media.specs.Faults.{refusal};
+ghost use Rattle.faults.specs.Faults.{refusal};
 ghost use Rattle.media.specs.Media.{blockCount, begins, readFault, readInto, Wrote, WroteBy, powered};
 ghost use Rattle.media.specs.Memory.{memory, blocksOf, behind, fitting, fateOf, burnt, renewed};
 use crate::fate::Fate;
-use crate::fault::Fault;
+use faults::Fault;
 use crate::fuse::Fuse;
 use crate::fuse::Left;
 use crate::medium::BLOCK;
@@ -50,6 +50,7 @@ impl<'a> MemoryMedium<'a> {
         ensures bytes { λ r. ⌜ held (r .bytes) ≡ now (bytes .entry) ⌝ }
         ensures fuse { λ r. ⌜ r .fuse ≡ Absent ⌝ }
         ensures live { λ r. ⌜ r .live ≡ true ⌝ }
+        ensures lent { λ r. ⌜ name (r .bytes) ≡ name (bytes .entry) ⌝ }
     {
         MemoryMedium {
             bytes,

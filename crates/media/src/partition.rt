@@ -1,13 +1,14 @@
 // Some blocks of another medium, counted from 0 again.
 ghost use mathlib.Core.Path.{_≡_};
-ghost use Rattle.media.specs.Faults.{refusal, report};
+ghost use Rattle.faults.specs.Faults.{refusal, report};
 ghost use Rattle.media.specs.Media.{Wrote, Whole, powered, blockCount};
 ghost use Rattle.media.specs.Parts.{partOf, retell, SameOutside};
 ghost use Prim.Native.Nat.{ℕ, _+_, _^_, _<_};
-use crate::fault::Fault;
+use faults::Fault;
 use crate::medium::Medium;
 
 // Blocks `first` to `first + blocks - 1` of a medium.
+#[derive(Drop)]
 pub struct Partition<M> {
     medium: M,
     first: usize,

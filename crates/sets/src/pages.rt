@@ -58,7 +58,8 @@ pub fn single(p: u32) -> u64
 pub fn meet(s: u64, t: u64) -> bool
     ensures { λ r. ⌜ Decides r (Meet s t) ⌝ }
 {
-    s & t != 0
+    let both = t & s;
+    both != 0
 }
 
 // How many pages s has.

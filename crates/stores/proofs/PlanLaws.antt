@@ -16,7 +16,7 @@ use Rattle.sets.specs.Sets.{has, differs, rising, pages}
 use Rattle.sets.proofs.SetLaws.{has-within, has-above, has-none, has-xor, rising-none, rising-more, rising-all}
 use Rattle.std.specs.declared.option.Option.{Option}
 use Rattle.std.specs.declared.option.Option.the-variants.{Some, None}
-use Rattle.media.specs.Faults.{Report}
+use Rattle.faults.specs.Faults.{Report}
 use Rattle.media.specs.Media.{Device, blockAt}
 use Rattle.media.specs.Plans.Ran.{done}
 use Rattle.media.specs.Plans.{Write, Ran, put, puts, Fitting, Throughout}

@@ -12,8 +12,8 @@ use Rattle.std.proofs.shelf.Lists.{length-map, length-append}
 use Rattle.std.proofs.shelf.Tests.{cases-bool, cases-eq, eq-eqb, ne-eqb, eqb-true, leb-true, leb-false, le-leb, lt-leb, lt-ltb, le-ltb, cond-true, cond-false, both-ways}
 use Rattle.std.specs.declared.option.Option.{Option}
 use Rattle.std.specs.declared.option.Option.the-variants.{Some, None}
-use Rattle.media.specs.declared.fault.Fault.the-variants.{NoSuchPage, WrongLength, PowerLost, TooShort}
-use Rattle.media.specs.Faults.{Report, report}
+use Rattle.faults.specs.declared.fault.Fault.the-variants.{NoSuchPage, WrongLength, PowerLost, TooShort}
+use Rattle.faults.specs.Faults.{Report, report}
 use Rattle.media.specs.Media.{Device, Whole, blockCount, check}
 use Rattle.media.specs.Plans.{Write, Ran, puts, Fitting, Throughout}
 use Rattle.media.proofs.PlanLaws.{throughout-ran, ran-passed, ran-failed, ran-count, ran-lives, ran-nothing}

@@ -8,8 +8,8 @@ use lib.ListN.{length, getD}
 use Rattle.std.specs.declared.option.Option.{Option}
 use Rattle.std.specs.declared.option.Option.the-variants.{Some, None}
 use Rattle.sets.specs.Sets.{has}
-use Rattle.media.specs.declared.fault.Fault.the-variants.{NoSuchPage, WrongLength, PowerLost, TooShort}
-use Rattle.media.specs.Faults.{Report, report}
+use Rattle.faults.specs.declared.fault.Fault.the-variants.{NoSuchPage, WrongLength, PowerLost, TooShort}
+use Rattle.faults.specs.Faults.{Report, report}
 use Rattle.media.specs.Media.{Device, blockCount, check}
 use Rattle.std.specs.Options.{Cases}
 use Rattle.media.specs.Plans.{Write, Ran}

@@ -4,7 +4,7 @@ ghost use mathlib.Core.List.{_∷_, []};
 ghost use Prim.Native.Nat.{ℕ, _<_, _≤_};
 ghost use lib.ListN.{length};
 ghost use Rattle.sets.specs.Sets.{has};
-ghost use Rattle.media.specs.Faults.{refusal};
+ghost use Rattle.faults.specs.Faults.{refusal};
 ghost use Rattle.media.specs.Media.{blockCount, blockAt, Whole};
 ghost use Rattle.media.specs.Plans.{Ran};
 ghost use Rattle.stores.specs.Images.{imageOf, pictured};
@@ -12,30 +12,30 @@ ghost use Rattle.stores.specs.Layout.{slot, setIn, setBlock};
 ghost use Rattle.stores.specs.Stores.{readFault, readInto, storeOn, installCheck};
 ghost use Rattle.stores.specs.Plans.{imageWrites, setWrite, ofPage, everyPage, settleWrites};
 use media::BLOCK;
-use media::Fault;
+use faults::Fault;
 use media::Medium;
 use sets::contains;
 use sets::put_u64;
 use sets::u64_at;
 
 // How many pages there are.
-pub const PAGES: u32 = 64;
+pub(crate) const PAGES: u32 = 64;
 
 // The bytes of an image that are stored: number and contents.
 const STORED: usize = 228;
 
 // The bytes of 64 images.
-pub const IMAGES: usize = 16384;
+pub(crate) const IMAGES: usize = 16384;
 
 // The block that holds a set, the last that a store needs.
 const SET_BLOCK: usize = 128;
-pub const STORE_BLOCKS: usize = 129;
+pub(crate) const STORE_BLOCKS: usize = 129;
 
 // Every page, as a set.
-pub const EVERY_PAGE: u64 = u64::MAX;
+pub(crate) const EVERY_PAGE: u64 = u64::MAX;
 
 // The block of a page: upper where the page is in `upper`.
-pub fn slot_of(upper: u64, page: u32) -> usize
+pub(crate) fn slot_of(upper: u64, page: u32) -> usize
     ensures { λ r. ⌜ r ≡ slot upper page ⌝ }
 {
     if contains(upper, page) {
@@ -45,7 +45,7 @@ pub fn slot_of(upper: u64, page: u32) -> usize
 }
 
 // Reads the image in a block.
-pub fn load_image<M: Medium>(medium: &M, block: usize, buffer: &mut [u8])
+pub(crate) fn load_image<M: Medium>(medium: &M, block: usize, buffer: &mut [u8])
     requires there { ⌜ block < blockCount (M·Medium .model (now medium)) ⌝ }
     requires long { ⌜ length (now buffer) ≡ 256 ⌝ }
     ensures image { λ _. ⌜ now (buffer .exit) ≡ imageOf (blockAt (M·Medium .model (now (medium .entry))) block) ⌝ }
@@ -56,7 +56,7 @@ pub fn load_image<M: Medium>(medium: &M, block: usize, buffer: &mut [u8])
 }
 
 // Reads the set in block 128.
-pub fn load_set<M: Medium>(medium: &M) -> u64
+pub(crate) fn load_set<M: Medium>(medium: &M) -> u64
     requires there { ⌜ 129 ≤ blockCount (M·Medium .model (now medium)) ⌝ }
     ensures { λ r. ⌜ r ≡ setIn (M·Medium .model (now (medium .entry)) .blocks) ⌝ }
 {
@@ -75,7 +75,7 @@ fn set_block(set: u64) -> [u8; BLOCK]
 }
 
 // Writes a set into block 128.
-pub fn write_set<M: Medium>(medium: &mut M, set: u64) -> Result<(), Fault>
+pub(crate) fn write_set<M: Medium>(medium: &mut M, set: u64) -> Result<(), Fault>
     ensures ran { λ r. ⌜ Ran (M·Medium .model (now (medium .entry))) (setWrite set ∷ []) (refusal r) (M·Medium .model (now (medium .exit))) ⌝ }
 {
     let block = set_block(set);
@@ -95,7 +95,7 @@ fn picture(images: &[u8], page: u32) -> [u8; BLOCK]
 }
 
 // Writes the image of one page into its block, if the page is in the set.
-pub fn put_image<M: Medium>(medium: &mut M, upper: u64, set: u64, images: &[u8], page: u32) -> Result<(), Fault>
+pub(crate) fn put_image<M: Medium>(medium: &mut M, upper: u64, set: u64, images: &[u8], page: u32) -> Result<(), Fault>
     requires page { ⌜ page < 64 ⌝ }
     requires long { ⌜ length (now images) ≡ 16384 ⌝ }
     ensures ran { λ r. ⌜ Ran (M·Medium .model (now (medium .entry))) (ofPage upper set (pictured (now (images .entry))) page) (refusal r) (M·Medium .model (now (medium .exit))) ⌝ }
@@ -108,7 +108,7 @@ pub fn put_image<M: Medium>(medium: &mut M, upper: u64, set: u64, images: &[u8],
 }
 
 // Writes the images of a set's pages, rising, each into its block.
-pub fn write_images<M: Medium>(medium: &mut M, upper: u64, set: u64, images: &[u8]) -> Result<(), Fault>
+pub(crate) fn write_images<M: Medium>(medium: &mut M, upper: u64, set: u64, images: &[u8]) -> Result<(), Fault>
     requires long { ⌜ length (now images) ≡ 16384 ⌝ }
     ensures ran { λ r. ⌜ Ran (M·Medium .model (now (medium .entry))) (imageWrites upper set (pictured (now (images .entry)))) (refusal r) (M·Medium .model (now (medium .exit))) ⌝ }
 {
@@ -133,7 +133,7 @@ fn bring_home<M: Medium>(medium: &mut M, mark: u64, page: u32) -> Result<(), Fau
 }
 
 // Reads the image of a page, live or dead.
-pub fn read_page<M: Medium>(medium: &M, page: u32, buffer: &mut [u8]) -> Result<(), Fault>
+pub(crate) fn read_page<M: Medium>(medium: &M, page: u32, buffer: &mut [u8]) -> Result<(), Fault>
     ensures answer { λ r. ⌜ refusal r ≡ readFault (storeOn (M·Medium .model (now (medium .entry)))) page (now (buffer .entry)) ⌝ }
     ensures buffer { λ _. ⌜ now (buffer .exit) ≡ readInto (storeOn (M·Medium .model (now (medium .entry)))) page (now (buffer .entry)) ⌝ }
 {
@@ -162,7 +162,7 @@ fn bring_all_home<M: Medium>(medium: &mut M, mark: u64) -> Result<(), Fault>
 }
 
 // Settles a mark that is not empty: copies its pages home and clears it.
-pub fn settle<M: Medium>(medium: &mut M) -> Result<(), Fault>
+pub(crate) fn settle<M: Medium>(medium: &mut M) -> Result<(), Fault>
     requires there { ⌜ 129 ≤ blockCount (M·Medium .model (now medium)) ⌝ }
     ensures ran { λ r. ⌜ Ran (M·Medium .model (now (medium .entry))) (settleWrites (M·Medium .model (now (medium .entry)) .blocks)) (refusal r) (M·Medium .model (now (medium .exit))) ⌝ }
 {
@@ -175,7 +175,7 @@ pub fn settle<M: Medium>(medium: &mut M) -> Result<(), Fault>
 }
 
 // The checks of an install ahead of its writes: all 64 images, and blocks enough.
-pub fn install_allowed<M: Medium>(medium: &M, images: &[u8]) -> Result<(), Fault>
+pub(crate) fn install_allowed<M: Medium>(medium: &M, images: &[u8]) -> Result<(), Fault>
     ensures answer { λ r. ⌜ refusal r ≡ installCheck (M·Medium .model (now (medium .entry))) (now (images .entry)) ⌝ }
     ensures whole { λ _. ⌜ Whole (M·Medium .model (now (medium .entry))) ⌝ }
 {

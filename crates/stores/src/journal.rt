@@ -2,7 +2,7 @@
 ghost use mathlib.Core.Path.{_≡_};
 ghost use Prim.Native.Nat.{_≤_};
 ghost use lib.ListN.{length};
-ghost use Rattle.media.specs.Faults.{refusal};
+ghost use Rattle.faults.specs.Faults.{refusal};
 ghost use Rattle.media.specs.Media.{blockCount};
 ghost use Rattle.media.specs.Media.{powered as poweredMedium};
 ghost use Rattle.media.specs.Plans.{Ran};
@@ -16,9 +16,10 @@ use crate::blocks::settle;
 use crate::blocks::write_images;
 use crate::blocks::write_set;
 use crate::store::PageStore;
-use media::Fault;
+use faults::Fault;
 use media::Medium;
 
+#[derive(Drop)]
 pub struct JournalStore<M> {
     medium: M,
 }

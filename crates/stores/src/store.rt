@@ -2,9 +2,9 @@
 ghost use mathlib.Core.Path.{_≡_};
 ghost use mathlib.Core.List.{List};
 ghost use Prim.Native.Nat.{ℕ};
-ghost use Rattle.media.specs.Faults.{refusal};
+ghost use Rattle.faults.specs.Faults.{refusal};
 ghost use Rattle.stores.specs.Stores.{Store, readFault, readInto, Installed, powered};
-use media::Fault;
+use faults::Fault;
 
 pub trait PageStore {
     // how many blocks the store needs

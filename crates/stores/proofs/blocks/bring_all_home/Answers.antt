@@ -3,7 +3,7 @@ use mathlib.Core.Path.{_≡_, subst}
 use native.Mathlib.Omega.{arith}
 use Rattle.std.specs.declared.option.Option.the-variants.{Some, None}
 use Rattle.std.proofs.shelf.Results.{err-from-errBy}
-use Rattle.media.specs.Faults.{report}
+use Rattle.faults.specs.Faults.{report}
 use Rattle.media.specs.Media.{blockAt}
 use Rattle.media.specs.Plans.{Ran}
 use Rattle.media.proofs.PlanLaws.{ran-count}

@@ -1,5 +1,5 @@
 use mathlib.Core.Path.{sym, ap, _∙_}
-use Rattle.media.specs.Faults.{refusal}
+use Rattle.faults.specs.Faults.{refusal}
 use Rattle.media.specs.Media.{blockAt}
 use Rattle.media.proofs.PlanLaws.{ran-wrote}
 use Rattle.stores.specs.Images.{imageOf}

@@ -1,7 +1,7 @@
 use mathlib.Core.Path.{sym, subst, _∙_}
 use Rattle.media.specs.Plans.{Ran}
 use Rattle.media.specs.Plans.Ran.{done}
-use Rattle.media.specs.Faults.{refusal}
+use Rattle.faults.specs.Faults.{refusal}
 use Rattle.media.proofs.PlanLaws.{ran-wrote}
 use Rattle.stores.specs.Images.{pictured}
 use Rattle.stores.specs.Plans.{imageWrite}

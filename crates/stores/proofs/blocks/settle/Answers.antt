@@ -2,7 +2,7 @@ use mathlib.Core.Path.{_≡_, refl, sym, subst, _∙_}
 use mathlib.Core.List.{_∷_, []}
 use Rattle.std.specs.declared.option.Option.the-variants.{Some, None}
 use Rattle.std.proofs.shelf.Results.{err-from-errBy}
-use Rattle.media.specs.Faults.{report, refusal}
+use Rattle.faults.specs.Faults.{report, refusal}
 use Rattle.media.specs.Plans.{Ran}
 use Rattle.media.specs.Plans.Ran.{done}
 use Rattle.media.proofs.PlanLaws.{ran-append, ran-cut}

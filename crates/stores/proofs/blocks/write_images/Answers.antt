@@ -3,7 +3,7 @@ use mathlib.Core.Path.{_≡_, subst}
 use native.Mathlib.Omega.{arith}
 use Rattle.std.specs.declared.option.Option.the-variants.{None}
 use Rattle.std.proofs.shelf.Results.{err-from-errBy}
-use Rattle.media.specs.Faults.{report}
+use Rattle.faults.specs.Faults.{report}
 use Rattle.media.specs.Plans.{Ran}
 use Rattle.stores.specs.Images.{pictured}
 use Rattle.stores.proofs.PlanLaws.{upTo, run-none, run-more, run-cut}

@@ -1,5 +1,5 @@
 use mathlib.Core.Path.{refl}
-use Rattle.media.specs.Faults.{refusal}
+use Rattle.faults.specs.Faults.{refusal}
 use Rattle.media.proofs.PlanLaws.{ran-wrote}
 use Rattle.stores.specs.Plans.{setWrite}
 use Rattle.stores.proofs.blocks.write_set.Needs as need

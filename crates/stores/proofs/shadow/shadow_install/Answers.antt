@@ -4,7 +4,7 @@ use native.Mathlib.Omega.{arith}
 use lib.Bits.{bitXor}
 use Rattle.std.specs.declared.option.Option.the-variants.{Some, None}
 use Rattle.std.proofs.shelf.Results.{err-from-errBy}
-use Rattle.media.specs.Faults.{report, refusal}
+use Rattle.faults.specs.Faults.{report, refusal}
 use Rattle.media.specs.Plans.{Ran}
 use Rattle.media.specs.Plans.Ran.{done}
 use Rattle.media.proofs.PlanLaws.{ran-append, ran-cut}

@@ -2,7 +2,7 @@ use mathlib.Core.Path.{_≡_, refl, sym, ap, subst, _∙_}
 use Prim.Native.Nat.{_<_}
 use native.Mathlib.Omega.{arith}
 use Rattle.std.specs.declared.option.Option.the-variants.{Some, None}
-use Rattle.media.specs.Faults.{report}
+use Rattle.faults.specs.Faults.{report}
 use Rattle.media.specs.Media.{blockCount, WroteBy}
 use Rattle.media.specs.Parts.{partOf, retell}
 use Rattle.media.proofs.PartLaws.{part-wrote, part-outside}

@@ -1,5 +1,5 @@
 use mathlib.Core.Path.{sym}
-use Rattle.media.specs.Faults.{refusal}
+use Rattle.faults.specs.Faults.{refusal}
 use Rattle.stores.specs.Plans.{journalWrites}
 use Rattle.stores.proofs.StoreLaws.{journal-run, carried}
 use Rattle.stores.proofs.journal.JournalStorePageStore.install.Needs as need

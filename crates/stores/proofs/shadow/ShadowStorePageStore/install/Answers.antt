@@ -1,5 +1,5 @@
 use mathlib.Core.Path.{sym}
-use Rattle.media.specs.Faults.{refusal}
+use Rattle.faults.specs.Faults.{refusal}
 use Rattle.stores.specs.Plans.{shadowWrites}
 use Rattle.stores.proofs.StoreLaws.{shadow-run, carried}
 use Rattle.stores.proofs.shadow.ShadowStorePageStore.install.Needs as need

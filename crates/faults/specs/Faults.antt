@@ -7,8 +7,8 @@ use Rattle.std.specs.declared.option.Option.the-variants.{Some, None}
 use Rattle.std.specs.declared.result.Result.{Result}
 use Rattle.std.specs.declared.result.Result.the-variants.{Ok, Err}
 use Rattle.std.specs.Written.{decimal}
-use Rattle.media.specs.declared.fault.Fault.{Fault}
-use Rattle.media.specs.declared.fault.Fault.the-variants.{NoSuchPage, NoSuchBlock, WrongLength, PowerLost, BodyRefused, WaitingFull, LogFull, NumbersSpent, PagesRefused, PageClean, GroupBefore, RecordWaiting, BadHeader, TooShort, BadRecord, SetsDiffer, PartlyInstalled, NumberAhead, RedoRefused, RootFull, NotFilePage, NotTreePage}
+use Rattle.faults.specs.declared.fault.Fault.{Fault}
+use Rattle.faults.specs.declared.fault.Fault.the-variants.{NoSuchPage, NoSuchBlock, WrongLength, PowerLost, BodyRefused, WaitingFull, LogFull, NumbersSpent, PagesRefused, PageClean, GroupBefore, RecordWaiting, BadHeader, TooShort, BadRecord, SetsDiffer, PartlyInstalled, NumberAhead, RedoRefused, RootFull, NotFilePage, NotTreePage}
 
 pub record Report : Type 0 where
   pub number : ℕ

@@ -1,7 +1,7 @@
 // Every way in which a call of the engine can be turned down.
 ghost use mathlib.Core.Path.{_≡_};
 ghost use Rattle.std.specs.declared.option.Option.the-variants.{Some};
-ghost use Rattle.media.specs.Faults.{report, text};
+ghost use Rattle.faults.specs.Faults.{report, text};
 ghost use Rattle.std.specs.Orderings.{Decides};
 use std::fmt;
 
