@@ -69,20 +69,6 @@ impl<'a> MemoryMedium<'a> {
         self.fuse = Fuse::Armed(writes, left);
     }
 
-    // The fuse as it is now.
-    pub fn fuse(&self) -> Fuse
-        ensures { λ r. ⌜ r ≡ now (self .entry) .fuse ⌝ }
-    {
-        self.fuse
-    }
-
-    // Whether the medium is live.
-    pub fn is_live(&self) -> bool
-        ensures { λ r. ⌜ r ≡ now (self .entry) .live ⌝ }
-    {
-        self.live
-    }
-
     // Carries out a write that is allowed, with the fate that the fuse gives it.
     fn carry_out(&mut self, block: usize, new: &[u8]) -> Result<(), Fault>
         requires begins { ⌜ begins (memory (now self)) block (now new) ≡ true ⌝ }

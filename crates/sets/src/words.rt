@@ -33,7 +33,7 @@ pub fn u64_at(bytes: &[u8], at: usize) -> u64
     u64::from_le_bytes(word)
 }
 
-// Writes n into the four bytes from place `at` on.
+// Writes a number into the four bytes from place `at` on.
 pub fn put_u32(bytes: &mut [u8], at: usize, n: u32)
     ensures { λ _. ⌜ now (bytes .exit) ≡ over at (bytesOf 4 n) (now (bytes .entry)) ⌝ }
 {
@@ -41,11 +41,11 @@ pub fn put_u32(bytes: &mut [u8], at: usize, n: u32)
     put(bytes, at, &word);
 }
 
-// Writes n into the eight bytes from place `at` on.
-pub fn put_u64(bytes: &mut [u8], at: usize, n: u64)
-    ensures { λ _. ⌜ now (bytes .exit) ≡ over at (bytesOf 8 n) (now (bytes .entry)) ⌝ }
+// Writes a number into the eight bytes from place `at` on.
+pub fn put_u64(bytes: &mut [u8], at: usize, long: u64)
+    ensures { λ _. ⌜ now (bytes .exit) ≡ over at (bytesOf 8 long) (now (bytes .entry)) ⌝ }
 {
-    let word = n.to_le_bytes();
+    let word = long.to_le_bytes();
     put(bytes, at, &word);
 }
 
