@@ -18,7 +18,7 @@ use lib.Pow.{pow-pos, pow-mono, shr-shr, shr-lt}
 use Rattle.std.proofs.shelf.Tests.{cases-lt, cases-eq, both-ways, cond-true, cond-false, cond-both, and-from, and-parts, and-right, eqb-true, eq-eqb, ne-eqb, lt-ltb, le-ltb}
 use Rattle.std.proofs.shelf.Ways.{tells}
 use Rattle.std.proofs.shelf.Bits.{one-shl}
-use Rattle.sets.specs.Sets.{has, differs, SetOf, Meet, count, rising, first, size, lowest, pages}
+use Rattle.sets.specs.Sets.{has, differs, SetOf, Meet, count, rising, first, size, lowest, pages, NextPage}
 
 -- page 0, and the pages above it
 pub has-zero : (s : ℕ) → has s 0 ≡ eqb (s % 2) 1
@@ -316,3 +316,29 @@ rising-all f (suc n) =
     here : (t : Bool) → f n ≡ t → All (λ p. (p < suc n) × (f p ≡ true)) (cond t (n ∷ []) [])
     here true e = ((omega arith, e), tt)
     here false e = tt
+
+-- ---- the next page from p on
+
+has-shifted : (s p q : ℕ) → has (s / 2 ^ p) q ≡ has s (p + q)
+unfolding has
+has-shifted s p q = ap (λ x. eqb (x % 2) 1) (shr-shr s p q)
+
+above-gap : (s p : ℕ) (q : ℕ) → p ≤ q → q - p < first (has (s / 2 ^ p)) 0 64 → has s q ≡ false
+above-gap s p q l h =
+    let e : p + (q - p) ≡ q = omega arith in
+    ap (has s) (sym e) ∙ sym (has-shifted s p (q - p)) ∙ first-least (has (s / 2 ^ p)) 0 64 (q - p) (omega arith) h
+
+pub next-none : (s p : ℕ) → s < 2 ^ 64 → 64 ≤ p → NextPage s p 64
+next-none s p small l = record { none-between = λ q a b. absurd (omega arith); found = inl refl }
+
+pub next-past : (s p : ℕ) → s < 2 ^ 64 → p < 64 → 64 ≤ trailingZeros 64 (s / 2 ^ p) → NextPage s p 64
+next-past s p small l h = record { none-between = λ q a b. above-gap s p q a (omega (arith, trailing-first 64 (s / 2 ^ p))); found = inl refl }
+
+pub next-found : (s p : ℕ) → s < 2 ^ 64 → p < 64 → trailingZeros 64 (s / 2 ^ p) < 64 → NextPage s p (p + trailingZeros 64 (s / 2 ^ p))
+next-found s p small l h =
+    let t = trailing-first 64 (s / 2 ^ p) in
+    let hit = first-hit (has (s / 2 ^ p)) 0 64 (omega arith) in
+    record
+    { none-between = λ q a b. above-gap s p q a (omega arith)
+    ; found = inr (omega arith, sym (has-shifted s p (trailingZeros 64 (s / 2 ^ p))) ∙ ap (has (s / 2 ^ p)) t ∙ hit)
+    }

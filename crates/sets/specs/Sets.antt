@@ -1,7 +1,8 @@
 -- Sets of pages. A set is a number: page p is in it when bit p of the number is 1.
-use Prim.Native.Nat.{ℕ, zero, suc, _+_, _/_, _%_, _^_}
+use Prim.Native.Nat.{ℕ, zero, suc, _+_, _/_, _%_, _^_, _≤_, _<_}
 use mathlib.Core.Bool.{Bool, true, false, not, cond}
 use mathlib.Core.List.{List, [], _∷_, _++_}
+use mathlib.Core.Logic.{_⊎_}
 use mathlib.Core.Path.{_≡_}
 use lib.Dec.{eqb}
 
@@ -48,3 +49,8 @@ lowest s = first (has s) 0 64
 -- the pages of a set of the 64 pages, rising
 abbrev pub pages : ℕ → List ℕ
 pages s = rising (has s) 64
+
+-- r is the lowest page of s from page p on, or 64 where there is none
+pub record NextPage (s p r : ℕ) : Type 0 where
+  pub none-between : (q : ℕ) → p ≤ q → q < r → has s q ≡ false
+  pub found : (r ≡ 64) ⊎ ((p ≤ r) × (has s r ≡ true))

@@ -6,6 +6,7 @@ pub use pages::common;
 pub use pages::contains;
 pub use pages::lowest;
 pub use pages::meet;
+pub use pages::next_page;
 pub use pages::single;
 pub use pages::size;
 pub use pages::toggle;

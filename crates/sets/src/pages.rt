@@ -3,7 +3,7 @@ ghost use mathlib.Core.Path.{_≡_};
 ghost use mathlib.Core.Bool.{_&&_, _||_, not};
 ghost use lib.Dec.{eqb, ltb};
 ghost use Rattle.std.specs.Orderings.{Decides};
-ghost use Rattle.sets.specs.Sets.{has, differs, SetOf, Meet};
+ghost use Rattle.sets.specs.Sets.{has, differs, SetOf, Meet, NextPage};
 ghost use Rattle.sets.specs.Sets.{size as sizeOf, lowest as lowestOf};
 
 // Whether page p is in the set s.
@@ -74,4 +74,19 @@ pub fn lowest(s: u64) -> u32
     ensures { λ r. ⌜ r ≡ lowestOf s ⌝ }
 {
     s.trailing_zeros()
+}
+
+// The lowest page of s from page p on; 64 where there is none. From 0 on, and each time one further, this goes through the
+// pages of s, rising.
+pub fn next_page(s: u64, p: u32) -> u32
+    ensures { λ r. ⌜ NextPage s p r ⌝ }
+{
+    if p >= 64 {
+        return 64;
+    }
+    let above = (s >> p).trailing_zeros();
+    if above >= 64 {
+        return 64;
+    }
+    p + above
 }
