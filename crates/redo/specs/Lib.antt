@@ -1,0 +1,6 @@
+pub mod Histories
+pub mod Prefixes
+pub mod Recovery
+pub mod WriteGraph
+pub mod Installation
+pub mod Theorems
