@@ -8,12 +8,8 @@ use native.Mathlib.Omega.{arith}
 use lib.Dec.{eqb}
 use Rattle.std.specs.Orderings.{Decides}
 use Rattle.std.proofs.shelf.Tests.{both-ways, cases-eq, and-parts, and-from, or-cases, or-left, or-right, eqb-true, eq-eqb}
+use Rattle.redo.specs.Situations.{listed}
 use Rattle.redo.specs.WriteGraph.{Operations, Arrow, Reaches, one, more}
-
--- whether a list of pages has page p
-unfoldable pub listed : List ℕ → ℕ → Bool
-listed [] p = false
-listed (q ∷ qs) p = eqb p q || listed qs p
 
 -- the pages below n
 unfoldable pub pages-below : ℕ → List ℕ
@@ -24,9 +20,9 @@ pub listed-below : (n p : ℕ) → p < n → listed (pages-below n) p ≡ true
 unfolding listed pages-below
 listed-below zero p l = absurd (omega arith)
 listed-below (suc n) p l = elim (cases-eq p n) [
-    inl same ↦ or-left (eqb p n) (listed (pages-below n) p) (eq-eqb p n same)
+  | inl same ↦ or-left (eqb p n) (listed (pages-below n) p) (eq-eqb p n same)
   | inr other ↦ or-right (eqb p n) (listed (pages-below n) p) (listed-below n p (omega arith))
-  ]
+]
 
 -- from a to b by steps of r, with only pages of the list between
 unfoldable pub via : (ℕ → ℕ → Bool) → List ℕ → ℕ → ℕ → Bool
@@ -51,23 +47,24 @@ module _ (r : ℕ → ℕ → Bool) where
   unfolding via listed
   via-trans [] a x b l p q = absurd (both-ways false refl l)
   via-trans (k ∷ ks) a x b l p q = elim (or-cases (eqb x k) (listed ks x) l) [
-      inl same ↦
+    | inl same ↦
         let e = eqb-true x k same in
         let to : via r (k ∷ ks) a k ≡ true = rw e at p in
         let from : via r (k ∷ ks) k b ≡ true = rw e at q in
         through (via-to k ks a to) (via-from k ks b from)
     | inr below ↦ go (via-trans ks a x b below) (via-trans ks a x k below) (via-trans ks k x b below)
         (or-cases (via r ks a x) (via r ks a k && via r ks k x) p) (or-cases (via r ks x b) (via r ks x k && via r ks k b) q)
-    ]
+  ]
     where
       through : via r ks a k ≡ true → via r ks k b ≡ true → via r (k ∷ ks) a b ≡ true
       through s t = or-right (via r ks a b) (via r ks a k && via r ks k b) (and-from (via r ks a k) (via r ks k b) s t)
+
       go : (via r ks a x ≡ true → via r ks x b ≡ true → via r ks a b ≡ true)
-        → (via r ks a x ≡ true → via r ks x k ≡ true → via r ks a k ≡ true)
-        → (via r ks k x ≡ true → via r ks x b ≡ true → via r ks k b ≡ true)
-        → (via r ks a x ≡ true) ⊎ ((via r ks a k && via r ks k x) ≡ true)
-        → (via r ks x b ≡ true) ⊎ ((via r ks x k && via r ks k b) ≡ true)
-        → via r (k ∷ ks) a b ≡ true
+          → (via r ks a x ≡ true → via r ks x k ≡ true → via r ks a k ≡ true)
+          → (via r ks k x ≡ true → via r ks x b ≡ true → via r ks k b ≡ true)
+          → (via r ks a x ≡ true) ⊎ ((via r ks a k && via r ks k x) ≡ true)
+          → (via r ks x b ≡ true) ⊎ ((via r ks x k && via r ks k b) ≡ true)
+          → via r (k ∷ ks) a b ≡ true
       go ab ak kb (inl s) (inl t) = or-left (via r ks a b) (via r ks a k && via r ks k b) (ab s t)
       go ab ak kb (inl s) (inr t) = let u = and-parts (via r ks x k) (via r ks k b) t in through (ak s (u .0)) (u .1)
       go ab ak kb (inr s) (inl t) = let u = and-parts (via r ks a k) (via r ks k x) s in through (u .0) (kb (u .1) t)
@@ -79,9 +76,9 @@ module _ (d : Operations) (r : ℕ → ℕ → Bool) (decides : (a b : ℕ) → 
   unfolding via
   via-reaches [] a b e = one (decides a b .0 e)
   via-reaches (k ∷ ks) a b e = elim (or-cases (via r ks a b) (via r ks a k && via r ks k b) e) [
-      inl x ↦ via-reaches ks a b x
+    | inl x ↦ via-reaches ks a b x
     | inr x ↦ let u = and-parts (via r ks a k) (via r ks k b) x in join (via-reaches ks a k (u .0)) (via-reaches ks k b (u .1))
-    ]
+  ]
     where
       join : {a b c : ℕ} → Reaches d a b → Reaches d b c → Reaches d a c
       join (one ar) s = more ar s

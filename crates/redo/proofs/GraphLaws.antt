@@ -68,9 +68,17 @@ module _ (d e : Operations) (among : Among d e) where
       let o = among (x .O) (x .O-dirty) in
       let p = among (x .P) (x .P-dirty) in
       inr (record {
-        O = o .0; P = p .0; page = x .page; O-dirty = o .1; P-dirty = p .1; earlier = subst₂ (λ (i j : ℕ). i < j) (o .2) (p .2) (x .earlier);
-        writes-a = sym (o .4 a) ∙ x .writes-a; writes-b = sym (p .4 b) ∙ x .writes-b;
-        O-reads = sym (o .3 (x .page)) ∙ x .O-reads; P-writes = sym (p .4 (x .page)) ∙ x .P-writes })
+        O = o .0;
+        P = p .0;
+        page = x .page;
+        O-dirty = o .1;
+        P-dirty = p .1;
+        earlier = subst₂ (λ (i j : ℕ). i < j) (o .2) (p .2) (x .earlier);
+        writes-a = sym (o .4 a) ∙ x .writes-a;
+        writes-b = sym (p .4 b) ∙ x .writes-b;
+        O-reads = sym (o .3 (x .page)) ∙ x .O-reads;
+        P-writes = sym (p .4 (x .page)) ∙ x .P-writes;
+      })
 
   reach-also : {a b : ℕ} → Reaches d a b → Reaches e a b
   reach-also (one {a = a} {b = b} ar) = one (arrow-also a b ar)
@@ -81,13 +89,19 @@ module _ (d e : Operations) (among : Among d e) where
 
 order-also : (d e : Operations) → Among d e → Among e d → (a b : ℕ) → Directly-before d a b → Directly-before e a b
 order-also d e de ed a b x = record {
-    from = x .from; to = x .to; from-group = group-also d e de a (x .from) (x .from-group); arrow = arrow-also d e de (x .from) (x .to) (x .arrow);
-    to-group = group-also d e de (x .to) b (x .to-group); apart = λ s. x .apart (group-also e d ed a b s) }
+  from = x .from;
+  to = x .to;
+  from-group = group-also d e de a (x .from) (x .from-group);
+  arrow = arrow-also d e de (x .from) (x .to) (x .arrow);
+  to-group = group-also d e de (x .to) b (x .to-group);
+  apart = λ s. x .apart (group-also e d ed a b s);
+}
 
 pub graph-by-operations : Graph-by-operations
 graph-by-operations d e de ed = record {
-    dirty = λ p. (dirty-also d e de p, dirty-also e d ed p);
-    arrows = λ a b. (arrow-also d e de a b, arrow-also e d ed a b);
-    reach = λ a b. (λ s. reach-also d e de s, λ s. reach-also e d ed s);
-    groups = λ a b. (group-also d e de a b, group-also e d ed a b);
-    order = λ a b. (order-also d e de ed a b, order-also e d ed de a b) }
+  dirty = λ p. (dirty-also d e de p, dirty-also e d ed p);
+  arrows = λ a b. (arrow-also d e de a b, arrow-also e d ed a b);
+  reach = λ a b. (λ s. reach-also d e de s, λ s. reach-also e d ed s);
+  groups = λ a b. (group-also d e de a b, group-also e d ed a b);
+  order = λ a b. (order-also d e de ed a b, order-also e d ed de a b);
+}

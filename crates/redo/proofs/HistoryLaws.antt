@@ -28,7 +28,7 @@ module _ (h : History) where
   after-unwritten m p e = cond-false (writes h m p) (renewed (effect-on h m (after h m)) m p (after h m p)) (after h m p) e
 
   pub run-written : (m p : ℕ) (w : ℕ → Page) (new : ℕ → List ℕ) → writes h m p ≡ true → effect-on h m w ≡ Some new
-    → run h m w p ≡ record { contents = new p; number = m }
+      → run h m w p ≡ record { contents = new p; number = m }
   run-written m p w new e ok =
       cond-true (writes h m p) (renewed (effect-on h m w) m p (w p)) (w p) e ∙ ap (λ x. renewed x m p (w p)) ok
 
@@ -75,7 +75,7 @@ module _ (h : History) where
   image-still J k (suc m) p l none = go (image-still J k m p) (cases-eq k (suc m)) (writes h m p) refl
     where
       go : (k ≤ m → ((j : ℕ) → k ≤ j → j < m → writes h j p ≡ true → J j ≡ false) → image h J m p ≡ image h J k p)
-        → ((k ≡ suc m) ⊎ (k ≡ suc m → ⊥)) → (b : Bool) → writes h m p ≡ b → image h J (suc m) p ≡ image h J k p
+          → ((k ≡ suc m) ⊎ (k ≡ suc m → ⊥)) → (b : Bool) → writes h m p ≡ b → image h J (suc m) p ≡ image h J k p
       go ih (inl same) b e = ap (λ j. image h J j p) (sym same)
       go ih (inr less) true e = image-outside J m p (none m (omega arith) (omega arith) e) ∙ ih (omega arith) (λ j a b. none j a (omega arith))
       go ih (inr less) false e = image-unwritten J m p e ∙ ih (omega arith) (λ j a b. none j a (omega arith))
@@ -100,8 +100,8 @@ module _ (h : History) where
         go ih false e′ =
             let num : image h I (suc k) p .number ≡ image h I k p .number = ap (λ (q : Page). q .number) (image-skip I k p e′) in
             elim (cases-eq m k) [
-              inl same ↦ absurd (both-ways (I k && writes h k p) e′ (let s : k ≡ m = sym same in rw s (and-from (I m) (writes h m p) i e)))
-            | inr other ↦ omega (arith, ih (omega arith) i e)
+              | inl same ↦ absurd (both-ways (I k && writes h k p) e′ (let s : k ≡ m = sym same in rw s (and-from (I m) (writes h m p) i e)))
+              | inr other ↦ omega (arith, ih (omega arith) i e)
             ]
 
     -- where no operation of the set from m on writes a page, its number is below m
@@ -115,7 +115,7 @@ module _ (h : History) where
             let both = and-parts (I k) (writes h k p) e in
             let num : image h I (suc k) p .number ≡ k = ap (λ (q : Page). q .number) (image-hit I k p (both .0) (both .1)) ∙ after-number k p (omega arith) (both .1) in
             elim (cases-lt k m) [
-              inl l ↦ omega arith
-            | inr g ↦ absurd (both-ways (I k) (none k g (omega arith) (both .1)) (both .0))
+              | inl l ↦ omega arith
+              | inr g ↦ absurd (both-ways (I k) (none k g (omega arith) (both .1)) (both .0))
             ]
         go ih false e = let num : image h I (suc k) p .number ≡ image h I k p .number = ap (λ (q : Page). q .number) (image-skip I k p e) in omega arith

@@ -31,8 +31,9 @@ on-pages h n ran m p l wr = ran .well-formed m (writes-from h m p wr) l .on-page
 
 pub history-finite : History-finite
 history-finite h I n ran = record {
-    few = λ m e. uninstalled-parts h I n m e .1;
-    on-pages = λ m p e wr. on-pages h n ran m p (uninstalled-parts h I n m e .1) wr }
+  few = λ m e. uninstalled-parts h I n m e .1;
+  on-pages = λ m p e wr. on-pages h n ran m p (uninstalled-parts h I n m e .1) wr;
+}
 
 module _ (h : History) (I : ℕ → Bool) (n : ℕ) (p : ℕ) (G : ℕ → Bool) (ran : Ran h n) (ready : Ready (operations h I n) p) (is-group : Is-group (operations h I n) p G) where
   abbrev d : Operations
@@ -53,16 +54,22 @@ module _ (h : History) (I : ℕ → Bool) (n : ℕ) (p : ℕ) (G : ℕ → Bool)
       let s = is-group a .0 g in
       is-group b .1 (
         more (inl (record { op = m; is-dirty = dirty; writes-a = wb; writes-b = wa })) (s .0),
-        reach-trans d (s .1) (one (inl (record { op = m; is-dirty = dirty; writes-a = wa; writes-b = wb }))))
+        reach-trans d (s .1) (one (inl (record { op = m; is-dirty = dirty; writes-a = wa; writes-b = wb }))),
+      )
 
   -- no arrow leads into the group from outside
   closed : (a b : ℕ) → Arrow d a b → G b ≡ true → G a ≡ true
   closed a b ar g = elim (cases-bool (G a)) [
-      inl in-it ↦ in-it
+    | inl in-it ↦ in-it
     | inr out ↦ absurd (ready .none-before a (record {
-        from = a; to = b; from-group = group-self d a (arrow-from d a b ar); arrow = ar; to-group = is-group b .0 g;
-        apart = λ s. both-ways (G a) out (is-group a .1 s) }))
-    ]
+      from = a;
+      to = b;
+      from-group = group-self d a (arrow-from d a b ar);
+      arrow = ar;
+      to-group = is-group b .0 g;
+      apart = λ s. both-ways (G a) out (is-group a .1 s);
+    }))
+  ]
 
   leaves : (a b : ℕ) → Arrow d a b → G a ≡ false → G b ≡ false
   leaves a b ar out = elim (cases-bool (G b)) [ inl g ↦ absurd (both-ways (G a) out (closed a b ar g)) | inr o ↦ o ]
@@ -88,31 +95,47 @@ module _ (h : History) (I : ℕ → Bool) (n : ℕ) (p : ℕ) (G : ℕ → Bool)
 
   was-outside : (m q : ℕ) → uninstalled h J n m ≡ true → writes h m q ≡ true → G q ≡ false
   was-outside m q x wr = elim (cases-bool (G q)) [
-      inl g ↦ absurd (both-ways (J m) (uninstalled-parts h J n m x .2) (joins m q (was-dirty m x) wr g))
+    | inl g ↦ absurd (both-ways (J m) (uninstalled-parts h J n m x .2) (joins m q (was-dirty m x) wr g))
     | inr o ↦ o
-    ]
+  ]
 
   still-dirty : (m q : ℕ) → uninstalled h I n m ≡ true → writes h m q ≡ true → G q ≡ false → uninstalled h J n m ≡ true
   still-dirty m q dirty wr out =
       let u = uninstalled-parts h I n m dirty in
       uninstalled-from h J n m (u .0) (u .1) (or-from (I m) (uninstalled h I n m && into m) (u .2) (elim (cases-bool (uninstalled h I n m && into m)) [
-        inl new ↦ absurd (both-ways (G q) out (joined-writes m q new wr))
-      | inr o ↦ o
+        | inl new ↦ absurd (both-ways (G q) out (joined-writes m q new wr))
+        | inr o ↦ o
       ]))
 
   arrow-keeps : (a b : ℕ) → Arrow d a b → G a ≡ false → Arrow e a b
   arrow-keeps a b (inl x) out = inl (record { op = x .op; is-dirty = still-dirty (x .op) a (x .is-dirty) (x .writes-a) out; writes-a = x .writes-a; writes-b = x .writes-b })
   arrow-keeps a b (inr x) out = inr (record {
-      O = x .O; P = x .P; page = x .page;
-      O-dirty = still-dirty (x .O) a (x .O-dirty) (x .writes-a) out;
-      P-dirty = still-dirty (x .P) b (x .P-dirty) (x .writes-b) (leaves a b (inr x) out);
-      earlier = x .earlier; writes-a = x .writes-a; writes-b = x .writes-b; O-reads = x .O-reads; P-writes = x .P-writes })
+    O = x .O;
+    P = x .P;
+    page = x .page;
+    O-dirty = still-dirty (x .O) a (x .O-dirty) (x .writes-a) out;
+    P-dirty = still-dirty (x .P) b (x .P-dirty) (x .writes-b) (leaves a b (inr x) out);
+    earlier = x .earlier;
+    writes-a = x .writes-a;
+    writes-b = x .writes-b;
+    O-reads = x .O-reads;
+    P-writes = x .P-writes;
+  })
 
   arrow-was : (a b : ℕ) → Arrow e a b → Arrow d a b
   arrow-was a b (inl x) = inl (record { op = x .op; is-dirty = was-dirty (x .op) (x .is-dirty); writes-a = x .writes-a; writes-b = x .writes-b })
   arrow-was a b (inr x) = inr (record {
-      O = x .O; P = x .P; page = x .page; O-dirty = was-dirty (x .O) (x .O-dirty); P-dirty = was-dirty (x .P) (x .P-dirty);
-      earlier = x .earlier; writes-a = x .writes-a; writes-b = x .writes-b; O-reads = x .O-reads; P-writes = x .P-writes })
+    O = x .O;
+    P = x .P;
+    page = x .page;
+    O-dirty = was-dirty (x .O) (x .O-dirty);
+    P-dirty = was-dirty (x .P) (x .P-dirty);
+    earlier = x .earlier;
+    writes-a = x .writes-a;
+    writes-b = x .writes-b;
+    O-reads = x .O-reads;
+    P-writes = x .P-writes;
+  })
 
   arrow-out : (a b : ℕ) → Arrow e a b → G a ≡ false
   arrow-out a b ar = let x = arrow-from e a b ar in was-outside (x .0) a (x .1) (x .2)
@@ -140,64 +163,85 @@ module _ (h : History) (I : ℕ → Bool) (n : ℕ) (p : ℕ) (G : ℕ → Bool)
       let from-out = reach-keeps (x .from-group .0) out .1 in
       let to-out = leaves (x .from) (x .to) (x .arrow) from-out in
       record {
-        from = x .from; to = x .to; from-group = group-keeps a (x .from) (x .from-group) out; arrow = arrow-keeps (x .from) (x .to) (x .arrow) from-out;
-        to-group = group-keeps (x .to) b (x .to-group) to-out; apart = λ s. x .apart (group-was a b s) }
+        from = x .from;
+        to = x .to;
+        from-group = group-keeps a (x .from) (x .from-group) out;
+        arrow = arrow-keeps (x .from) (x .to) (x .arrow) from-out;
+        to-group = group-keeps (x .to) b (x .to-group) to-out;
+        apart = λ s. x .apart (group-was a b s);
+      }
 
   order-was : (a b : ℕ) → Directly-before e a b → Directly-before d a b
   order-was a b x = record {
-      from = x .from; to = x .to; from-group = group-was a (x .from) (x .from-group); arrow = arrow-was (x .from) (x .to) (x .arrow);
-      to-group = group-was (x .to) b (x .to-group); apart = λ s. x .apart (group-keeps a b s (reach-out (x .from-group .0))) }
+    from = x .from;
+    to = x .to;
+    from-group = group-was a (x .from) (x .from-group);
+    arrow = arrow-was (x .from) (x .to) (x .arrow);
+    to-group = group-was (x .to) b (x .to-group);
+    apart = λ s. x .apart (group-keeps a b s (reach-out (x .from-group .0)));
+  }
 
   pub rest : Rest d e G
   rest = record {
-      dirty = λ q. (λ x. ((x .0, was-dirty (x .0) (x .1), x .2), was-outside (x .0) q (x .1) (x .2)), λ x. (x .0 .0, still-dirty (x .0 .0) q (x .0 .1) (x .0 .2) (x .1), x .0 .2));
-      groups = λ a b. (λ s. (group-was a b s, reach-out (s .0)), λ x. group-keeps a b (x .0) (x .1));
-      order = λ a b. (λ s. (order-was a b s, reach-out (s .from-group .0)), λ x. order-keeps a b (x .0) (x .1)) }
+    dirty = λ q. (λ x. ((x .0, was-dirty (x .0) (x .1), x .2), was-outside (x .0) q (x .1) (x .2)), λ x. (x .0 .0, still-dirty (x .0 .0) q (x .0 .1) (x .0 .2) (x .1), x .0 .2));
+    groups = λ a b. (λ s. (group-was a b s, reach-out (s .0)), λ x. group-keeps a b (x .0) (x .1));
+    order = λ a b. (λ s. (order-was a b s, reach-out (s .from-group .0)), λ x. order-keeps a b (x .0) (x .1));
+  }
 
   pub keeps : (w : ℕ → Page) → Installed h I n w → Installed h J n (stored-with h n G w)
   keeps w kept = record { were-run = run-at; is-prefix = brings; images = λ q. image-at q (G q) refl }
     where
       run-at : (m : ℕ) → J m ≡ true → m < n
       run-at m j = elim (or-cases (I m) (uninstalled h I n m && into m) j) [
-          inl i ↦ kept .were-run m i
+        | inl i ↦ kept .were-run m i
         | inr new ↦ uninstalled-parts h I n m (and-parts (uninstalled h I n m) (into m) new .0) .1
-        ]
+      ]
 
       new-brings : (O P x : ℕ) → O < P → P < n → (uninstalled h I n P && into P) ≡ true → writes h P x ≡ true → touches h O x ≡ true → I O ≡ false → J O ≡ true
       new-brings O P x l pn new wr t out =
           let g = joined-writes P x new wr in
           let dirty-P = and-parts (uninstalled h I n P) (into P) new .0 in
           elim (or-cases (reads h O x) (writes h O x) t) [
-            inl rd ↦
-              let f = reads-from h O x rd in
-              let dirty-O = uninstalled-from h I n O f (omega arith) out in
-              let a = ran .well-formed O f (omega arith) .writes-some in
-              let wa : writes h O (a .0) ≡ true = and-from (leb (h .first) O) (h .operation O .writes (a .0)) (le-leb (h .first) O f) (a .1) in
-              joins O (a .0) dirty-O wa (closed (a .0) x (inr (record {
-                O = O; P = P; page = x; O-dirty = dirty-O; P-dirty = dirty-P; earlier = l; writes-a = wa; writes-b = wr; O-reads = rd; P-writes = wr })) g)
-          | inr wo ↦ joins O x (uninstalled-from h I n O (writes-from h O x wo) (omega arith) out) wo g
+            | inl rd ↦
+                let f = reads-from h O x rd in
+                let dirty-O = uninstalled-from h I n O f (omega arith) out in
+                let a = ran .well-formed O f (omega arith) .writes-some in
+                let wa : writes h O (a .0) ≡ true = and-from (leb (h .first) O) (h .operation O .writes (a .0)) (le-leb (h .first) O f) (a .1) in
+                joins O (a .0) dirty-O wa (closed (a .0) x (inr (record {
+                  O = O;
+                  P = P;
+                  page = x;
+                  O-dirty = dirty-O;
+                  P-dirty = dirty-P;
+                  earlier = l;
+                  writes-a = wa;
+                  writes-b = wr;
+                  O-reads = rd;
+                  P-writes = wr;
+                })) g)
+            | inr wo ↦ joins O x (uninstalled-from h I n O (writes-from h O x wo) (omega arith) out) wo g
           ]
 
       brings : Prefix h J n
       brings O P x l pn j wr t = elim (or-cases (I P) (uninstalled h I n P && into P) j) [
-          inl i ↦ or-left (I O) (uninstalled h I n O && into O) (kept .is-prefix O P x l pn i wr t)
+        | inl i ↦ or-left (I O) (uninstalled h I n O && into O) (kept .is-prefix O P x l pn i wr t)
         | inr new ↦ elim (cases-bool (I O)) [
-            inl i ↦ or-left (I O) (uninstalled h I n O && into O) i
+          | inl i ↦ or-left (I O) (uninstalled h I n O && into O) i
           | inr out ↦ new-brings O P x l pn new wr t out
-          ]
         ]
+      ]
 
       all-in : (q : ℕ) → G q ≡ true → (m : ℕ) → m < n → writes h m q ≡ true → J m ≡ true
       all-in q g m l wr = elim (cases-bool (I m)) [
-          inl i ↦ or-left (I m) (uninstalled h I n m && into m) i
+        | inl i ↦ or-left (I m) (uninstalled h I n m && into m) i
         | inr out ↦ joins m q (uninstalled-from h I n m (writes-from h m q wr) l out) wr g
-        ]
+      ]
 
       none-new : (q : ℕ) → G q ≡ false → (m : ℕ) → m < n → writes h m q ≡ true → I m ≡ J m
       none-new q out m l wr = elim (cases-bool (uninstalled h I n m && into m)) [
-          inl new ↦ absurd (both-ways (G q) out (joined-writes m q new wr))
+        | inl new ↦ absurd (both-ways (G q) out (joined-writes m q new wr))
         | inr o ↦ same (I m) (uninstalled h I n m && into m) o
-        ]
+      ]
         where
           same : (a b : Bool) → b ≡ false → a ≡ (a || b)
           same true b o = refl

@@ -53,17 +53,17 @@ run-keeps h I n w o new ran kept f well ok = (ran′, kept′, λ p. ap (λ (v :
 
     well-at : (m : ℕ) → h .first ≤ m → m < suc n → Well-formed (extended h n o .operation m)
     well-at m g l = elim (cases-eq m n) [
-        inl same ↦ subst (λ (x : Operation). Well-formed x) (sym (new-operation h n o) ∙ ap (extended h n o .operation) (sym same)) well
+      | inl same ↦ subst (λ (x : Operation). Well-formed x) (sym (new-operation h n o) ∙ ap (extended h n o .operation) (sym same)) well
       | inr other ↦ subst (λ (x : Operation). Well-formed x) (sym (same-operation h n o m (omega arith))) (ran .well-formed m g (omega arith))
-      ]
+    ]
 
     accepted-at : (m : ℕ) → h .first ≤ m → m < suc n → (new : ℕ → List ℕ) × (effect-on (extended h n o) m (after (extended h n o) m) ≡ Some new)
     accepted-at m g l = elim (cases-eq m n) [
-        inl same ↦ subst (λ (k : ℕ). (new : ℕ → List ℕ) × (effect-on (extended h n o) k (after (extended h n o) k) ≡ Some new)) (sym same)
+      | inl same ↦ subst (λ (k : ℕ). (new : ℕ → List ℕ) × (effect-on (extended h n o) k (after (extended h n o) k) ≡ Some new)) (sym same)
           (new, ap₂ (λ (x : Operation) (v : ℕ → Page). x .effect (contents-of v)) (new-operation h n o) (extended-after h n o n (omega arith)) ∙ ok)
       | inr other ↦ let was = ran .accepted m g (omega arith) in
           (was .0, ap₂ (λ (x : Operation) (v : ℕ → Page). x .effect (contents-of v)) (same-operation h n o m (omega arith)) (extended-after h n o m (omega arith)) ∙ was .1)
-      ]
+    ]
 
     ran′ : Ran (extended h n o) (suc n)
     ran′ = record { starts-below = ran .starts-below; well-formed = well-at; accepted = accepted-at }
@@ -76,9 +76,10 @@ run-keeps h I n w o new ran kept f well ok = (ran′, kept′, λ p. ap (λ (v :
 
     kept′ : Installed (extended h n o) I (suc n) w
     kept′ = record {
-        were-run = λ m i. let l = kept .were-run m i in omega arith;
-        is-prefix = brings;
-        images = λ p. kept .images p ∙ sym (extended-image h n o I n p (omega arith)) ∙ sym (image-outside (extended h n o) I n p not-yet) }
+      were-run = λ m i. let l = kept .were-run m i in omega arith;
+      is-prefix = brings;
+      images = λ p. kept .images p ∙ sym (extended-image h n o I n p (omega arith)) ∙ sym (image-outside (extended h n o) I n p not-yet);
+    }
       where
         not-yet : I n ≡ false
         not-yet = elim (cases-bool (I n)) [ inl i ↦ absurd (omega (arith, kept .were-run n i)) | inr out ↦ out ]
@@ -87,14 +88,17 @@ run-keeps h I n w o new ran kept f well ok = (ran′, kept′, λ p. ap (λ (v :
 
 pub loss-keeps : Loss-keeps
 loss-keeps h I n k w ran kept l none = (
-    record {
-      starts-below = ran .starts-below;
-      well-formed = λ m f b. ran .well-formed m f (omega arith);
-      accepted = λ m f b. ran .accepted m f (omega arith) },
-    record {
-      were-run = none;
-      is-prefix = λ O P x a b. kept .is-prefix O P x a (omega arith);
-      images = λ p. kept .images p ∙ image-still h I k n p l (λ m a b wr. out m a) })
+  record {
+    starts-below = ran .starts-below;
+    well-formed = λ m f b. ran .well-formed m f (omega arith);
+    accepted = λ m f b. ran .accepted m f (omega arith);
+  },
+  record {
+    were-run = none;
+    is-prefix = λ O P x a b. kept .is-prefix O P x a (omega arith);
+    images = λ p. kept .images p ∙ image-still h I k n p l (λ m a b wr. out m a);
+  },
+)
   where
     out : (m : ℕ) → k ≤ m → I m ≡ false
     out m a = elim (cases-bool (I m)) [ inl i ↦ absurd (omega (arith, none m i)) | inr o ↦ o ]
@@ -122,6 +126,7 @@ module _ (h : History) (k : ℕ) (from-first : h .first ≤ k) where
     where
       same-run : k ≤ m → (w : ℕ → Page) → run (trimmed h k) m w ≡ run h m w
       same-run g w = fun-ext (λ p. ap (λ b. cond b (renewed (effect-on h m w) m p (w p)) (w p)) (trimmed-writes m p g))
+
       go : (k ≡ suc m) ⊎ (k ≡ suc m → ⊥) → (k ≤ m → after (trimmed h k) m ≡ after h m) → after (trimmed h k) (suc m) ≡ after h (suc m)
       go (inl same) ih = before (suc m) (omega arith) ∙ ap (after h) same
       go (inr less) ih =
@@ -163,20 +168,22 @@ trim-keeps h I n k w ran kept f l all = (ran′, kept′, λ m p g. ap (λ (v : 
 
     ran′ : Ran (trimmed h k) n
     ran′ = record {
-        starts-below = starts;
-        well-formed = λ m g b. ran .well-formed m (omega arith) b;
-        accepted = λ m g b. let was = ran .accepted m (omega arith) b in
-          (was .0, ap (λ (v : ℕ → Page). h .operation m .effect (contents-of v)) (trimmed-after h k f m g) ∙ was .1) }
+      starts-below = starts;
+      well-formed = λ m g b. ran .well-formed m (omega arith) b;
+      accepted = λ m g b. let was = ran .accepted m (omega arith) b in
+          (was .0, ap (λ (v : ℕ → Page). h .operation m .effect (contents-of v)) (trimmed-after h k f m g) ∙ was .1);
+    }
 
     touched : (O x : ℕ) → touches (trimmed h k) O x ≡ true → touches h O x ≡ true
     touched O x t = elim (or-cases (reads (trimmed h k) O x) (writes (trimmed h k) O x) t) [
-        inl rd ↦ or-left (reads h O x) (writes h O x) (sym (trimmed-reads h k f O x (reads-from (trimmed h k) O x rd)) ∙ rd)
+      | inl rd ↦ or-left (reads h O x) (writes h O x) (sym (trimmed-reads h k f O x (reads-from (trimmed h k) O x rd)) ∙ rd)
       | inr wr ↦ or-right (reads h O x) (writes h O x) (sym (trimmed-writes h k f O x (writes-from (trimmed h k) O x wr)) ∙ wr)
-      ]
+    ]
 
     kept′ : Installed (trimmed h k) I n w
     kept′ = record {
-        were-run = kept .were-run;
-        is-prefix = λ O P x a b i wr t.
+      were-run = kept .were-run;
+      is-prefix = λ O P x a b i wr t.
           kept .is-prefix O P x a b i (sym (trimmed-writes h k f P x (writes-from (trimmed h k) P x wr)) ∙ wr) (touched O x t);
-        images = λ p. kept .images p ∙ sym (trimmed-image h k f I all n p l) }
+      images = λ p. kept .images p ∙ sym (trimmed-image h k f I all n p l);
+    }

@@ -5,4 +5,6 @@ pub mod GraphLaws
 pub mod InstallLaws
 pub mod KeepLaws
 pub mod ClosureLaws
+pub mod DecideLaws
 pub mod ReadyLaws
+pub mod SituationLaws

@@ -32,9 +32,9 @@ until-above I m k l = go (I k)
 
 until-other : (I : ℕ → Bool) (m k : ℕ) → (k ≡ m → ⊥) → until I (suc m) k ≡ until I m k
 until-other I m k ne = elim (cases-lt k m) [
-    inl l ↦ until-below I (suc m) k (omega arith) ∙ sym (until-below I m k l)
+  | inl l ↦ until-below I (suc m) k (omega arith) ∙ sym (until-below I m k l)
   | inr g ↦ until-above I (suc m) k (omega arith) ∙ sym (until-above I m k g)
-  ]
+]
 
 page-same : (p q : Page) → p .contents ≡ q .contents → p .number ≡ q .number → p ≡ q
 page-same p q c n = λ i. record { contents = c i; number = n i }
@@ -45,8 +45,8 @@ module _ (h : History) (I : ℕ → Bool) (n : ℕ) (ran : Ran h n) where
   missing-below m v l e p wr =
       let small = ran .well-formed m (writes-from h m p wr) l .on-pages p (and-parts (leb (h .first) m) (h .operation m .writes p) wr .1) in
       elim (or-cases (not (writes h m p)) (ltb (v p .number) m) (every-at page-count (λ p. not (writes h m p) || ltb (v p .number) m) p e small)) [
-        inl out ↦ absurd (both-ways (writes h m p) (not-true (writes h m p) out) wr)
-      | inr lt ↦ ltb-true (v p .number) m lt
+        | inl out ↦ absurd (both-ways (writes h m p) (not-true (writes h m p) out) wr)
+        | inr lt ↦ ltb-true (v p .number) m lt
       ]
 
   pub below-missing : (m : ℕ) (v : ℕ → Page) → Below h m v → missing h m v ≡ true
@@ -60,8 +60,8 @@ module _ (h : History) (I : ℕ → Bool) (n : ℕ) (ran : Ran h n) where
   present-above m v l e p wr =
       let small = ran .well-formed m (writes-from h m p wr) l .on-pages p (and-parts (leb (h .first) m) (h .operation m .writes p) wr .1) in
       elim (or-cases (not (writes h m p)) (leb m (v p .number)) (every-at page-count (λ p. not (writes h m p) || leb m (v p .number)) p e small)) [
-        inl out ↦ absurd (both-ways (writes h m p) (not-true (writes h m p) out) wr)
-      | inr le ↦ leb-true m (v p .number) le
+        | inl out ↦ absurd (both-ways (writes h m p) (not-true (writes h m p) out) wr)
+        | inr le ↦ leb-true m (v p .number) le
       ]
 
   pub above-present : (m : ℕ) (v : ℕ → Page) → At-or-above h m v → present h m v ≡ true
@@ -82,16 +82,16 @@ module _ (h : History) (I : ℕ → Bool) (n : ℕ) (ran : Ran h n) where
     -- an operation outside the prefix keeps out the later ones that write what it touches
     later-out : (m k p : ℕ) → I m ≡ false → m < k → k < n → touches h m p ≡ true → writes h k p ≡ true → I k ≡ false
     later-out m k p out l kn t wr = elim (cases-bool (I k)) [
-        inl i ↦ absurd (both-ways (I m) out (pre m k p l kn i wr t))
+      | inl i ↦ absurd (both-ways (I m) out (pre m k p l kn i wr t))
       | inr o ↦ o
-      ]
+    ]
 
     -- no operation from m on that is in the set writes what m touches
     none-from : (m p j : ℕ) → I m ≡ false → touches h m p ≡ true → m ≤ j → j < n → writes h j p ≡ true → I j ≡ false
     none-from m p j out t l jn wr = elim (cases-eq j m) [
-        inl same ↦ rw same out
+      | inl same ↦ rw same out
       | inr other ↦ later-out m j p out (omega arith) jn t wr
-      ]
+    ]
 
     -- numbers tell, where a set J that is as I from m on has numbered the pages
     told-in : (J : ℕ → Bool) (v : ℕ → Page) (m : ℕ) → Numbered h J n v → J m ≡ true → m < n → At-or-above h m v
@@ -100,7 +100,7 @@ module _ (h : History) (I : ℕ → Bool) (n : ℕ) (ran : Ran h n) where
     told-out : (J : ℕ → Bool) (v : ℕ → Page) (m : ℕ) → ((k : ℕ) → m ≤ k → J k ≡ I k) → Numbered h J n v → I m ≡ false → Below h m v
     told-out J v m like num out p wr =
         let b = image-below h n ran J m n p (omega arith) (writes-from h m p wr)
-              (λ j l jn w. like j l ∙ none-from m p j out (or-right (reads h m p) (writes h m p) wr) l jn w) in
+        (λ j l jn w. like j l ∙ none-from m p j out (or-right (reads h m p) (writes h m p) wr) l jn w) in
         omega (arith, num p)
 
     -- how far redo has come: the operations of I and those below m explain the pages
@@ -121,10 +121,14 @@ module _ (h : History) (I : ℕ → Bool) (n : ℕ) (ran : Ran h n) where
     same-reads : (m : ℕ) (v : ℕ → Page) → Progress m v → m < n → I m ≡ false → (x : ℕ) → reads h m x ≡ true → v x ≡ after h m x
     same-reads m v pr l out x rd =
         pr .shown x (inr (record {
-            op = m; below = l; outside = until-above I m m (omega arith) ∙ out; reads-it = rd;
-            none-earlier = λ k lt o. absurd (both-ways (until I m k) o (until-below I m k lt)) }))
+          op = m;
+          below = l;
+          outside = until-above I m m (omega arith) ∙ out;
+          reads-it = rd;
+          none-earlier = λ k lt o. absurd (both-ways (until I m k) o (until-below I m k lt));
+        }))
         ∙ image-still h (until I m) m n x (omega arith)
-            (λ j a b wr. until-above I m j a ∙ none-from m x j out (or-left (reads h m x) (writes h m x) rd) a b wr)
+        (λ j a b wr. until-above I m j a ∙ none-from m x j out (or-left (reads h m x) (writes h m x) rd) a b wr)
         ∙ image-all h (until I m) m x (λ k lt _. until-below I m k lt)
 
     same-effect : (m : ℕ) (v : ℕ → Page) → Progress m v → h .first ≤ m → m < n → I m ≡ false → effect-on h m v ≡ effect-on h m (after h m)
@@ -138,25 +142,35 @@ module _ (h : History) (I : ℕ → Bool) (n : ℕ) (ran : Ran h n) where
       where
         earlier : reads h m p ≡ false → (j : ℕ) → Untouched h (until I (suc m)) j p → Untouched h (until I m) j p
         earlier rd j unt k lt o = elim (cases-eq k m) [
-            inl same ↦ rw same (or-from (reads h m p) (writes h m p) rd unwritten)
+          | inl same ↦ rw same (or-from (reads h m p) (writes h m p) rd unwritten)
           | inr other ↦ unt k lt (until-other I m k other ∙ o)
-          ]
+        ]
+
         go : (b : Bool) → reads h m p ≡ b → Exposed h (until I (suc m)) n p → Exposed h (until I m) n p
         go true rd _ = inr (record {
-            op = m; below = l; outside = until-above I m m (omega arith) ∙ out; reads-it = rd;
-            none-earlier = λ k lt o. absurd (both-ways (until I m k) o (until-below I m k lt)) })
+          op = m;
+          below = l;
+          outside = until-above I m m (omega arith) ∙ out;
+          reads-it = rd;
+          none-earlier = λ k lt o. absurd (both-ways (until I m k) o (until-below I m k lt));
+        })
         go false rd (inl unt) = inl (earlier rd n unt)
         go false rd (inr fr) =
             let other : fr .op ≡ m → ⊥ = λ same. both-ways (reads h m p) rd (rw same at (fr .reads-it)) in
             inr (record {
-            op = fr .op; below = fr .below; outside = sym (until-other I m (fr .op) other) ∙ fr .outside; reads-it = fr .reads-it;
-            none-earlier = earlier rd (fr .op) (fr .none-earlier) })
+              op = fr .op;
+              below = fr .below;
+              outside = sym (until-other I m (fr .op) other) ∙ fr .outside;
+              reads-it = fr .reads-it;
+              none-earlier = earlier rd (fr .op) (fr .none-earlier);
+            })
 
     -- an operation that runs again
     runs-again : (m : ℕ) (v : ℕ → Page) → Progress m v → m < n → I m ≡ false → Progress (suc m) (run h m v)
     runs-again m v pr l out = record {
-        numbered = λ p. numbered-at p (writes h m p) refl;
-        shown = λ p ex. shown-at p ex (writes h m p) refl }
+      numbered = λ p. numbered-at p (writes h m p) refl;
+      shown = λ p ex. shown-at p ex (writes h m p) refl;
+    }
       where
         at-written : (p : ℕ) → writes h m p ≡ true → run h m v p ≡ image h (until I (suc m)) n p
         at-written p wr =
@@ -167,13 +181,16 @@ module _ (h : History) (I : ℕ → Bool) (n : ℕ) (ran : Ran h n) where
             ∙ ap (λ (w : ℕ → Page). w p) (sym (after-suc h m))
             ∙ sym (image-hit h (until I (suc m)) m p (until-below I (suc m) m (omega arith)) wr)
             ∙ sym (image-still h (until I (suc m)) (suc m) n p l
-                (λ j a b w. until-above I (suc m) j a ∙ later-out m j p out a b (or-right (reads h m p) (writes h m p) wr) w))
+            (λ j a b w. until-above I (suc m) j a ∙ later-out m j p out a b (or-right (reads h m p) (writes h m p) wr) w))
+
         like : (p : ℕ) → writes h m p ≡ false → image h (until I m) n p ≡ image h (until I (suc m)) n p
         like p un = image-like h (until I m) (until I (suc m)) n p
             (λ k kn wr. sym (until-other I m k (λ same. both-ways (writes h m p) un (rw same at wr))))
+
         numbered-at : (p : ℕ) (b : Bool) → writes h m p ≡ b → run h m v p .number ≡ image h (until I (suc m)) n p .number
         numbered-at p true wr = ap (λ (q : Page). q .number) (at-written p wr)
         numbered-at p false un = ap (λ (q : Page). q .number) (run-unwritten h m p v un) ∙ pr .numbered p ∙ ap (λ (q : Page). q .number) (like p un)
+
         shown-at : (p : ℕ) → Exposed h (until I (suc m)) n p → (b : Bool) → writes h m p ≡ b → run h m v p ≡ image h (until I (suc m)) n p
         shown-at p ex true wr = at-written p wr
         shown-at p ex false un = run-unwritten h m p v un ∙ pr .shown p (exposed-before m p l out un ex) ∙ like p un
@@ -197,9 +214,10 @@ module _ (h : History) (I : ℕ → Bool) (n : ℕ) (ran : Ran h n) where
           where
             same : until I (suc m) ≡ until I m
             same = fun-ext (λ k. elim (cases-eq k m) [
-                inl e ↦ rw e (or-left (I m) (ltb m (suc m)) i ∙ sym (or-left (I m) (ltb m m) i))
+              | inl e ↦ rw e (or-left (I m) (ltb m (suc m)) i ∙ sym (or-left (I m) (ltb m m) i))
               | inr other ↦ until-other I m k other
-              ])
+            ])
+
             stays : next m v ≡ v
             stays = fun-ext (λ p. at p (missing h m v) refl)
               where
@@ -228,47 +246,57 @@ module _ (h : History) (I : ℕ → Bool) (n : ℕ) (ran : Ran h n) where
 
 pub redo-recovers : Redo-recovers
 redo-recovers h I n w ran rec = record {
-    installed-told = λ m f l. (λ i. told-in h I n ran pre I w m (rec .numbered) i l, λ up. in-from-above m f l up (I m) refl);
-    missing-told = λ m f l. (λ o. told-out h I n ran pre I w m (λ k _. refl) (rec .numbered) o, λ down. out-from-below m f l down (I m) refl);
-    present-then = λ m f l. present-at m f l (I m) refl;
-    missing-then = λ m f l. missing-at m f l (I m) refl;
-    runs-again = rising-like (λ m. leb (h .first) m && missing h m (redo h m w)) (uninstalled h I n) n (λ m l. again-at m l (leb (h .first) m) refl);
-    first-effect = λ m f l o. same-effect h I n ran pre m (redo h m w) (at m l) f l o;
-    accepted = λ m f l o. let ok = ran .accepted m f l in (ok .0, same-effect h I n ran pre m (redo h m w) (at m l) f l o ∙ ok .1);
-    all-pages = ends h I n ran pre (redo h n w) (comes h I n ran pre n w (omega arith) start) }
+  installed-told = λ m f l. (λ i. told-in h I n ran pre I w m (rec .numbered) i l, λ up. in-from-above m f l up (I m) refl);
+  missing-told = λ m f l. (λ o. told-out h I n ran pre I w m (λ k _. refl) (rec .numbered) o, λ down. out-from-below m f l down (I m) refl);
+  present-then = λ m f l. present-at m f l (I m) refl;
+  missing-then = λ m f l. missing-at m f l (I m) refl;
+  runs-again = rising-like (λ m. leb (h .first) m && missing h m (redo h m w)) (uninstalled h I n) n (λ m l. again-at m l (leb (h .first) m) refl);
+  first-effect = λ m f l o. same-effect h I n ran pre m (redo h m w) (at m l) f l o;
+  accepted = λ m f l o. let ok = ran .accepted m f l in (ok .0, same-effect h I n ran pre m (redo h m w) (at m l) f l o ∙ ok .1);
+  all-pages = ends h I n ran pre (redo h n w) (comes h I n ran pre n w (omega arith) start);
+}
   where
     pre : Prefix h I n
     pre = rec .is-prefix
+
     start : Progress h I n ran pre 0 w
     start = begins h I n ran pre w (rec .explains) (rec .numbered)
+
     at : (m : ℕ) → m < n → Progress h I n ran pre m (redo h m w)
     at m l = comes h I n ran pre m w (omega arith) start
+
     in-from-above : (m : ℕ) → h .first ≤ m → m < n → At-or-above h m w → (b : Bool) → I m ≡ b → I m ≡ true
     in-from-above m f l up true e = e
     in-from-above m f l up false e = absurd (not-mixed h I n ran m w f l up (told-out h I n ran pre I w m (λ k _. refl) (rec .numbered) e))
+
     out-from-below : (m : ℕ) → h .first ≤ m → m < n → Below h m w → (b : Bool) → I m ≡ b → I m ≡ false
     out-from-below m f l down false e = e
     out-from-below m f l down true e = absurd (not-mixed h I n ran m w f l (told-in h I n ran pre I w m (rec .numbered) e l) down)
+
     not-both : (m : ℕ) → h .first ≤ m → m < n → present h m (redo h m w) ≡ true → missing h m (redo h m w) ≡ true → ⊥
     not-both m f l a b = not-mixed h I n ran m (redo h m w) f l (present-above h I n ran m (redo h m w) l a) (missing-below h I n ran m (redo h m w) l b)
+
     present-at : (m : ℕ) → h .first ≤ m → m < n → (b : Bool) → I m ≡ b → present h m (redo h m w) ≡ I m
     present-at m f l true e = above-present h I n ran m (redo h m w) (above-in h I n ran pre m (redo h m w) (at m l) l e) ∙ sym e
     present-at m f l false e = elim (cases-bool (present h m (redo h m w))) [
-        inl up ↦ absurd (not-both m f l up (missing-out h I n ran pre m (redo h m w) (at m l) e))
+      | inl up ↦ absurd (not-both m f l up (missing-out h I n ran pre m (redo h m w) (at m l) e))
       | inr no-more ↦ no-more ∙ sym e
-      ]
+    ]
+
     missing-at : (m : ℕ) → h .first ≤ m → m < n → (b : Bool) → I m ≡ b → missing h m (redo h m w) ≡ not (I m)
     missing-at m f l false e = missing-out h I n ran pre m (redo h m w) (at m l) e ∙ sym (ap not e)
     missing-at m f l true e = elim (cases-bool (missing h m (redo h m w))) [
-        inl down ↦ absurd (not-both m f l (above-present h I n ran m (redo h m w) (above-in h I n ran pre m (redo h m w) (at m l) l e)) down)
+      | inl down ↦ absurd (not-both m f l (above-present h I n ran m (redo h m w) (above-in h I n ran pre m (redo h m w) (at m l) l e)) down)
       | inr no-more ↦ no-more ∙ sym (ap not e)
-      ]
+    ]
+
     again-at : (m : ℕ) → m < n → (b : Bool) → leb (h .first) m ≡ b → (leb (h .first) m && missing h m (redo h m w)) ≡ uninstalled h I n m
     again-at m l true e = ap (λ x. leb (h .first) m && x) (missing-at m (leb-true (h .first) m e) l (I m) refl ∙ sym (ap (λ x. x && not (I m)) (lt-ltb m n l)))
     again-at m l false e = and-left (leb (h .first) m) (missing h m (redo h m w)) e ∙ sym (and-left (leb (h .first) m) (ltb m n && not (I m)) e)
 
 pub installed-recoverable : Installed-recoverable
 installed-recoverable h I n w kept = record {
-    is-prefix = kept .is-prefix;
-    explains = λ p _. ap (λ (q : Page). q .contents) (kept .images p);
-    numbered = λ p. ap (λ (q : Page). q .number) (kept .images p) }
+  is-prefix = kept .is-prefix;
+  explains = λ p _. ap (λ (q : Page). q .contents) (kept .images p);
+  numbered = λ p. ap (λ (q : Page). q .number) (kept .images p);
+}

@@ -25,17 +25,17 @@ pub some-from : (n : ℕ) (f : ℕ → Bool) (k : ℕ) → k < n → f k ≡ tru
 unfolding some
 some-from zero f k l e = absurd (omega arith)
 some-from (suc n) f k l e = elim (cases-eq k n) [
-    inl same ↦ or-left (f n) (some n f) (let s : n ≡ k = sym same in rw s e)
+  | inl same ↦ or-left (f n) (some n f) (let s : n ≡ k = sym same in rw s e)
   | inr other ↦ or-right (f n) (some n f) (some-from n f k (omega arith) e)
-  ]
+]
 
 pub some-at : (n : ℕ) (f : ℕ → Bool) → some n f ≡ true → (k : ℕ) × (k < n) × (f k ≡ true)
 unfolding some
 some-at zero f e = absurd (both-ways false refl e)
 some-at (suc n) f e = elim (or-cases (f n) (some n f) e) [
-    inl here ↦ (n, omega arith, here)
+  | inl here ↦ (n, omega arith, here)
   | inr below ↦ let k = some-at n f below in (k .0, omega (arith, k .1), k .2)
-  ]
+]
 
 -- tests that agree below n list the same numbers
 pub rising-like : (f g : ℕ → Bool) (n : ℕ) → ((k : ℕ) → k < n → f k ≡ g k) → rising f n ≡ rising g n

@@ -4,3 +4,4 @@ pub mod Recovery
 pub mod WriteGraph
 pub mod Installation
 pub mod Theorems
+pub mod Situations

@@ -45,8 +45,8 @@ pub record Rest (d e : Operations) (G : ℕ → Bool) : Type 0 where
 abbrev pub Group-installs : Type 0
 Group-installs =
     (h : History) (I : ℕ → Bool) (n : ℕ) (w : ℕ → Page) (p : ℕ) (G : ℕ → Bool) → Ran h n → Installed h I n w
-  → Ready (operations h I n) p → Is-group (operations h I n) p G
-  → Installed h (joined h I n G) n (stored-with h n G w) × Rest (operations h I n) (operations h (joined h I n G) n) G
+    → Ready (operations h I n) p → Is-group (operations h I n) p G
+    → Installed h (joined h I n G) n (stored-with h n G w) × Rest (operations h I n) (operations h (joined h I n G) n) G
 
 -- 3. the order among groups has no circle
 abbrev pub No-circle : Type 0
@@ -75,18 +75,18 @@ Graph-by-operations = (d e : Operations) → Among d e → Among e d → Same-gr
 abbrev pub Run-keeps : Type 0
 Run-keeps =
     (h : History) (I : ℕ → Bool) (n : ℕ) (w : ℕ → Page) (o : Operation) (new : ℕ → List ℕ) → Ran h n → Installed h I n w
-  → h .first ≤ n → Well-formed o → o .effect (contents-of (after h n)) ≡ Some new
-  → Ran (extended h n o) (suc n) × Installed (extended h n o) I (suc n) w × ((p : ℕ) → after (extended h n o) n p ≡ after h n p)
+    → h .first ≤ n → Well-formed o → o .effect (contents-of (after h n)) ≡ Some new
+    → Ran (extended h n o) (suc n) × Installed (extended h n o) I (suc n) w × ((p : ℕ) → after (extended h n o) n p ≡ after h n p)
 
 -- losing operations at the end that are not installed keeps it
 abbrev pub Loss-keeps : Type 0
 Loss-keeps =
     (h : History) (I : ℕ → Bool) (n k : ℕ) (w : ℕ → Page) → Ran h n → Installed h I n w
-  → k ≤ n → ((m : ℕ) → I m ≡ true → m < k) → Ran h k × Installed h I k w
+    → k ≤ n → ((m : ℕ) → I m ≡ true → m < k) → Ran h k × Installed h I k w
 
 -- dropping from the log operations that are all installed keeps it, and the pages that all operations give
 abbrev pub Trim-keeps : Type 0
 Trim-keeps =
     (h : History) (I : ℕ → Bool) (n k : ℕ) (w : ℕ → Page) → Ran h n → Installed h I n w
-  → h .first ≤ k → k ≤ n → ((m : ℕ) → h .first ≤ m → m < k → I m ≡ true)
-  → Ran (trimmed h k) n × Installed (trimmed h k) I n w × ((m p : ℕ) → k ≤ m → after (trimmed h k) m p ≡ after h m p)
+    → h .first ≤ k → k ≤ n → ((m : ℕ) → h .first ≤ m → m < k → I m ≡ true)
+    → Ran (trimmed h k) n × Installed (trimmed h k) I n w × ((m p : ℕ) → k ≤ m → after (trimmed h k) m p ≡ after h m p)

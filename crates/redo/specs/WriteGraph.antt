@@ -86,4 +86,4 @@ pub record Finite (d : Operations) (n : ℕ) : Type 0 where
 abbrev pub Among : Operations → Operations → Type 0
 Among d e =
     (m : ℕ) → d .dirty m ≡ true
-  → (k : ℕ) × (e .dirty k ≡ true) × (d .number m ≡ e .number k) × ((p : ℕ) → d .reads m p ≡ e .reads k p) × ((p : ℕ) → d .writes m p ≡ e .writes k p)
+    → (k : ℕ) × (e .dirty k ≡ true) × (d .number m ≡ e .number k) × ((p : ℕ) → d .reads m p ≡ e .reads k p) × ((p : ℕ) → d .writes m p ≡ e .writes k p)

@@ -1,4 +1,5 @@
 // The theory of redo recovery. The definitions and the theorems stand in specs/; each function here promises one of the theorems.
+ghost use Rattle.redo.specs.Situations.{Situations-shown};
 ghost use Rattle.redo.specs.Theorems.{Redo-recovers, Installed-recoverable, Group-installs, No-circle, Some-ready, History-finite, Graph-by-operations, Run-keeps, Loss-keeps, Trim-keeps};
 
 // Redo recovers: numbers tell what is installed, each operation that runs again has its first effect, and all pages come back.
@@ -67,6 +68,13 @@ pub fn loss_keeps() -> u8
 // Dropping installed operations from the log keeps it.
 pub fn trim_keeps() -> u8
     ensures { λ _. ⌜ Trim-keeps ⌝ }
+{
+    0
+}
+
+// The table of small situations, by computation, and the bench history once page 41 is installed.
+pub fn situations_shown() -> u8
+    ensures { λ _. ⌜ Situations-shown ⌝ }
 {
     0
 }
