@@ -8,13 +8,9 @@ use native.Mathlib.Omega.{arith}
 use lib.Dec.{eqb}
 use Rattle.std.specs.Orderings.{Decides}
 use Rattle.std.proofs.shelf.Tests.{both-ways, cases-eq, and-parts, and-from, or-cases, or-left, or-right, eqb-true, eq-eqb}
+use Rattle.redo.specs.Closure.{pages-below, via}
 use Rattle.redo.specs.Situations.{listed}
 use Rattle.redo.specs.WriteGraph.{Operations, Arrow, Reaches, one, more}
-
--- the pages below n
-unfoldable pub pages-below : ℕ → List ℕ
-pages-below zero = []
-pages-below (suc n) = n ∷ pages-below n
 
 pub listed-below : (n p : ℕ) → p < n → listed (pages-below n) p ≡ true
 unfolding listed pages-below
@@ -23,11 +19,6 @@ listed-below (suc n) p l = elim (cases-eq p n) [
   | inl same ↦ or-left (eqb p n) (listed (pages-below n) p) (eq-eqb p n same)
   | inr other ↦ or-right (eqb p n) (listed (pages-below n) p) (listed-below n p (omega arith))
 ]
-
--- from a to b by steps of r, with only pages of the list between
-unfoldable pub via : (ℕ → ℕ → Bool) → List ℕ → ℕ → ℕ → Bool
-via r [] a b = r a b
-via r (k ∷ ks) a b = via r ks a b || (via r ks a k && via r ks k b)
 
 module _ (r : ℕ → ℕ → Bool) where
   pub via-step : (ks : List ℕ) (a b : ℕ) → r a b ≡ true → via r ks a b ≡ true

@@ -13,7 +13,8 @@ use Rattle.redo.specs.WriteGraph.{Operations, Writes-both, Reads-before, Arrow
 use Rattle.redo.proofs.TestLaws.{some-from, some-at}
 use Rattle.redo.proofs.GraphLaws.{reach-to, arrow-from, arrow-to}
 use Rattle.redo.specs.Situations.{listed}
-use Rattle.redo.proofs.ClosureLaws.{via, via-decides}
+use Rattle.redo.proofs.ClosureLaws.{via-decides}
+use Rattle.redo.specs.Closure.{via}
 
 -- whether a test holds of some page of a list
 unfoldable pub some-of : List ℕ → (ℕ → Bool) → Bool

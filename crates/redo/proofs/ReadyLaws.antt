@@ -9,7 +9,8 @@ use Rattle.std.proofs.shelf.Tests.{both-ways, cases-eq, cases-bool}
 use Rattle.redo.specs.WriteGraph.{Operations, Reaches, Dirty, Ready, Finite}
 use Rattle.redo.specs.Theorems.{Some-ready}
 use Rattle.redo.proofs.GraphLaws.{reach-trans, reach-from, directly-reaches}
-use Rattle.redo.proofs.ClosureLaws.{pages-below, listed-below}
+use Rattle.redo.proofs.ClosureLaws.{listed-below}
+use Rattle.redo.specs.Closure.{pages-below}
 use Rattle.redo.proofs.DecideLaws as decide
 
 module _ (d : Operations) (n : ℕ) (finite : Finite d n) where

@@ -20,7 +20,7 @@ use Rattle.redo.specs.Situations.{none, only, either, listed, Step, fill, copy
 use Rattle.redo.specs.Theorems.{Recovers}
 use Rattle.redo.proofs.InstallLaws.{uninstalled-parts}
 use Rattle.redo.proofs.GraphLaws.{reach-from, reach-to, directly-reaches}
-use Rattle.redo.proofs.ClosureLaws.{via}
+use Rattle.redo.specs.Closure.{via}
 use Rattle.redo.proofs.DecideLaws.{some-of, group-test, order-test, group-decides, order-decides}
 use Rattle.redo.proofs.RecoveryLaws.{redo-recovers, installed-recoverable}
 use Rattle.sets.specs.Sets.{rising}

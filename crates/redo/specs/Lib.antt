@@ -5,3 +5,4 @@ pub mod WriteGraph
 pub mod Installation
 pub mod Theorems
 pub mod Situations
+pub mod Closure

@@ -1,0 +1,5 @@
+pub mod RowLaws
+pub mod ArrowLaws
+pub mod CloseLaws
+pub mod GroupLaws
+pub mod TableLaws

@@ -1,0 +1,12 @@
+// The write graph, computed from the dirty operations.
+mod arrows;
+mod closure;
+mod groups;
+mod op;
+
+pub use groups::before;
+pub use groups::dirty;
+pub use groups::group;
+pub use groups::group_count;
+pub use groups::lowest_pages;
+pub use op::Op;
