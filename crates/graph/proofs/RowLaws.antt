@@ -10,10 +10,10 @@ use lib.Dec.{eqb, ltb}
 use lib.ListN.{length, getD, set, length-set}
 use lib.Seq.{getD-set-same, getD-set-other}
 use Rattle.std.specs.Orderings.{Decides}
-use Rattle.std.proofs.shelf.Tests.{both-ways, cases-eq, or-cases, or-left, or-right, and-parts, and-from, eqb-true, eq-eqb, lt-ltb}
+use Rattle.std.proofs.shelf.Tests.{both-ways, cases-bool, cases-eq, or-cases, or-left, or-right, and-parts, and-from, eqb-true, eq-eqb, lt-ltb}
 use Rattle.std.proofs.shelf.Lists.{getD-past}
 use Rattle.sets.specs.Sets.{has, SetOf}
-use Rattle.sets.proofs.SetLaws.{has-none}
+use Rattle.sets.proofs.SetLaws.{has-none, none-only}
 use Rattle.graph.specs.Ops.{Pages}
 use Rattle.graph.specs.Rows.{row, leads, Some-below}
 
@@ -74,3 +74,7 @@ page-if P s p is-one l x q = (
   λ e. (eqb-true q p (and-parts (eqb q p) (ltb p 64) (sym (is-one q) ∙ e) .0), x),
   λ y. is-one q ∙ and-from (eqb q p) (ltb p 64) (eq-eqb q p (y .0)) (lt-ltb p 64 l),
 )
+
+-- where nothing holds of any page, the set is empty
+pub pages-empty : (P : ℕ → Type 0) (s : ℕ) → s < 2 ^ 64 → Pages s P → ((q : ℕ) → P q → ⊥) → s ≡ 0
+pages-empty P s small pages never = none-only s small (λ q. elim (cases-bool (has s q)) [ inl e ↦ absurd (never q (pages q .0 e)) | inr o ↦ o ])

@@ -17,6 +17,7 @@ use Rattle.redo.proofs.ClosureLaws.{listed-below, via-decides}
 use Rattle.redo.proofs.GraphLaws.{arrow-from, arrow-to, reach-from, reach-to, group-self, group-sym, group-trans}
 use Rattle.graph.specs.Ops.{Pages, Lowest-of-group, Lowest-pages}
 use Rattle.graph.specs.Rows.{row, leads, Some-below, mutual-reach, In-group-of, Leads-group}
+use Rattle.graph.proofs.RowLaws.{pages-empty}
 use Rattle.graph.proofs.GroupLaws.{row-past}
 
 module _ (d : Operations) (arrows reach : List ℕ) (made : (a b : ℕ) → Decides (leads arrows a b) (Arrow d a b)) (within : (p : ℕ) → Dirty d p → p < 64)
@@ -116,3 +117,10 @@ module _ (d : Operations) (arrows reach : List ℕ) (made : (a b : ℕ) → Deci
     each-has-one = has-lowest;
     no-two = λ p q x y s. let a = x .least q (group-sym d p q s) in let b = y .least p s in omega arith;
   }
+
+-- a page of a group, or with a group before its own, is dirty
+pub group-clean : (d : Operations) (page r : ℕ) → r < 2 ^ 64 → Pages r (λ q. Same-group d q page) → (Dirty d page → ⊥) → r ≡ 0
+group-clean d page r small pages clean = pages-empty (λ q. Same-group d q page) r small pages (λ q s. clean (reach-to d (s .0)))
+
+pub before-clean : (d : Operations) (page r : ℕ) → r < 2 ^ 64 → Pages r (λ q. Directly-before d q page) → (Dirty d page → ⊥) → r ≡ 0
+before-clean d page r small pages clean = pages-empty (λ q. Directly-before d q page) r small pages (λ q x. clean (reach-to d (x .to-group .0)))

@@ -58,7 +58,9 @@ fn sources(rows: &[u64; 64], set: u64) -> u64
 fn group_in(reach: &[u64; 64], page: u32) -> u64
     ensures { λ r. ⌜ SetOf r (mutual-reach (now (reach .entry)) page) ⌝ }
 {
-    sets::common(row(reach, page), sources(reach, sets::single(page)))
+    let to = row(reach, page);
+    let from = sources(reach, sets::single(page));
+    sets::common(to, from)
 }
 
 // The group of page p, if p is in the set.
@@ -108,15 +110,18 @@ fn leaders(reach: &[u64; 64]) -> u64
 
 // The group of a page: empty if the page is clean.
 pub fn group(ops: &[Op], page: u32) -> u64
-    ensures { λ r. ⌜ Pages r (λ q. Same-group (dirty-ops (now (ops .entry))) q page) ⌝ }
+    ensures pages { λ r. ⌜ Pages r (λ q. Same-group (dirty-ops (now (ops .entry))) q page) ⌝ }
+    ensures clean { λ r. ⌜ ((Dirty (dirty-ops (now (ops .entry))) page → ⊥) → r ≡ 0) ⌝ }
 {
-    let reach = closed(arrows(ops));
-    group_in(&reach, page)
+    let table = arrows(ops);
+    let all = closed(table);
+    group_in(&all, page)
 }
 
 // All pages in groups directly before the group of a page: none if the page is clean.
 pub fn before(ops: &[Op], page: u32) -> u64
-    ensures { λ r. ⌜ Pages r (λ q. Directly-before (dirty-ops (now (ops .entry))) q page) ⌝ }
+    ensures pages { λ r. ⌜ Pages r (λ q. Directly-before (dirty-ops (now (ops .entry))) q page) ⌝ }
+    ensures clean { λ r. ⌜ ((Dirty (dirty-ops (now (ops .entry))) page → ⊥) → r ≡ 0) ⌝ }
 {
     let table = arrows(ops);
     let reach = closed(table);
@@ -129,7 +134,8 @@ pub fn before(ops: &[Op], page: u32) -> u64
 pub fn lowest_pages(ops: &[Op]) -> u64
     ensures { λ r. ⌜ Lowest-pages (dirty-ops (now (ops .entry))) r ⌝ }
 {
-    let reach = closed(arrows(ops));
+    let table = arrows(ops);
+    let reach = closed(table);
     leaders(&reach)
 }
 

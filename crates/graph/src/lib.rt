@@ -3,6 +3,8 @@ mod arrows;
 mod closure;
 mod groups;
 mod op;
+#[cfg(test)]
+mod tests;
 
 pub use groups::before;
 pub use groups::dirty;
