@@ -11,11 +11,11 @@ use Rattle.std.proofs.shelf.Tests.{both-ways, cases-lt, cases-bool, and-parts, 
 use Rattle.std.proofs.shelf.Ways.{decides-at, decides-and, decides-like}
 use Rattle.sets.specs.Sets.{has, SetOf, Meet, first}
 use Rattle.sets.proofs.SetLaws.{first-hit, first-least, first-le}
-use Rattle.redo.specs.WriteGraph.{Operations, Arrow, Reaches, Dirty, Same-group, Directly-before}
+use Rattle.redo.specs.WriteGraph.{Operations, Arrow, Reaches, Dirty, Same-group, Directly-before, Lowest-of-group}
 use Rattle.redo.specs.Closure.{via, pages-below}
 use Rattle.redo.proofs.ClosureLaws.{listed-below, via-decides}
 use Rattle.redo.proofs.GraphLaws.{arrow-from, arrow-to, reach-from, reach-to, group-self, group-sym, group-trans}
-use Rattle.graph.specs.Ops.{Pages, Lowest-of-group, Lowest-pages}
+use Rattle.graph.specs.Ops.{Pages, Lowest-pages}
 use Rattle.graph.specs.Rows.{row, leads, Some-below, mutual-reach, In-group-of, Leads-group}
 use Rattle.graph.proofs.RowLaws.{pages-empty}
 use Rattle.graph.proofs.GroupLaws.{row-past}
@@ -78,12 +78,12 @@ module _ (d : Operations) (arrows reach : List ℕ) (made : (a b : ℕ) → Deci
   -- lowest pages
   leads-lowest : (p : ℕ) → Leads-group reach p → Lowest-of-group d p
   leads-lowest p x = record {
-    dirty = reach-from d (group-table p p .0 (x .0) .0);
+    is-dirty = reach-from d (group-table p p .0 (x .0) .0);
     least = λ q s. x .1 q (within q (reach-from d (s .0))) (group-table p q .1 s);
   }
 
   lowest-leads : (p : ℕ) → Lowest-of-group d p → Leads-group reach p
-  lowest-leads p x = (group-table p p .1 (group-self d p (x .dirty)), λ q _ m. x .least q (group-table p q .0 m))
+  lowest-leads p x = (group-table p p .1 (group-self d p (x .is-dirty)), λ q _ m. x .least q (group-table p q .0 m))
 
   -- the lowest page of the group of a dirty page
   has-lowest : (p : ℕ) → Dirty d p → (q : ℕ) × Lowest-of-group d q × Same-group d q p
@@ -99,7 +99,7 @@ module _ (d : Operations) (arrows reach : List ℕ) (made : (a b : ℕ) → Deci
       let same : Same-group d low p = group-table p low .0 (first-hit f 0 64 (omega arith)) in (
         low,
         record {
-          dirty = reach-from d (same .0);
+          is-dirty = reach-from d (same .0);
           least = λ x s. elim (cases-lt x low) [
             | inl lt ↦ absurd (both-ways (f x) (first-least f 0 64 x (omega arith) lt) (group-table p x .1 (group-trans d x low p s same)))
             | inr ge ↦ ge
@@ -112,7 +112,7 @@ module _ (d : Operations) (arrows reach : List ℕ) (made : (a b : ℕ) → Deci
   lowest-all r is = record {
     are-lowest = λ q. (
       λ e. let x = is q .0 e in leads-lowest q (subst (λ (p : ℕ). Leads-group reach p) (sym (x .2 .0)) (x .2 .1)),
-      λ x. is q .1 (q, within q (x .dirty), (refl, lowest-leads q x)),
+      λ x. is q .1 (q, within q (x .is-dirty), (refl, lowest-leads q x)),
     );
     each-has-one = has-lowest;
     no-two = λ p q x y s. let a = x .least q (group-sym d p q s) in let b = y .least p s in omega arith;

@@ -1,13 +1,13 @@
 -- The dirty operations that a slice lists.
-use Prim.Native.Nat.{ℕ, _<_, _≤_}
+use Prim.Native.Nat.{ℕ}
 use mathlib.Core.Path.{_≡_}
 use mathlib.Core.Bool.{Bool, true, false}
 use mathlib.Core.List.{List}
 use lib.Dec.{ltb}
 use lib.ListN.{length, getD}
 use Rattle.std.specs.Orderings.{Decides}
-use Rattle.sets.specs.Sets.{has, size}
-use Rattle.redo.specs.WriteGraph.{Operations, Dirty, Same-group, Directly-before}
+use Rattle.sets.specs.Sets.{has}
+use Rattle.redo.specs.WriteGraph.{Operations, Dirty, Same-group, Lowest-of-group}
 use Rattle.graph.specs.declared.op.Op.{Op}
 
 -- an operation that touches nothing: what a slice has past its end
@@ -27,17 +27,8 @@ dirty-ops ops = record {
 abbrev pub Pages : ℕ → (ℕ → Type 0) → Type 0
 Pages s P = (q : ℕ) → Decides (has s q) (P q)
 
--- page q is the lowest of its group
-pub record Lowest-of-group (d : Operations) (q : ℕ) : Type 0 where
-  pub dirty : Dirty d q
-  pub least : (x : ℕ) → Same-group d x q → q ≤ x
-
 -- s has the lowest page of each group: each group has exactly one
 pub record Lowest-pages (d : Operations) (s : ℕ) : Type 0 where
   pub are-lowest : Pages s (Lowest-of-group d)
   pub each-has-one : (p : ℕ) → Dirty d p → (q : ℕ) × Lowest-of-group d q × Same-group d q p
   pub no-two : (p q : ℕ) → Lowest-of-group d p → Lowest-of-group d q → Same-group d p q → p ≡ q
-
--- r is the number of groups: as many as there are lowest pages
-abbrev pub Group-count : Operations → ℕ → Type 0
-Group-count d r = (s : ℕ) × Lowest-pages d s × (r ≡ size s)

@@ -4,7 +4,7 @@ use mathlib.Core.Path.{_≡_, sym, _∙_, subst₂}
 use mathlib.Core.Bool.{Bool, true, false}
 use mathlib.Core.Logic.{_⊎_, inl, inr}
 use Rattle.redo.specs.WriteGraph.{Operations, Writes-both, Reads-before, Arrow, Reaches, one, more, Dirty, Same-group, Directly-before, Before, step, steps, Circle, Among}
-use Rattle.redo.specs.Theorems.{No-circle, Same-graph, Graph-by-operations}
+use Rattle.redo.specs.Theorems.{Groups-part, No-circle, Same-graph, Graph-by-operations}
 
 pub reach-trans : (d : Operations) {a b c : ℕ} → Reaches d a b → Reaches d b c → Reaches d a c
 reach-trans d (one ar) r = more ar r
@@ -39,6 +39,13 @@ group-sym d a b s = (s .1, s .0)
 
 pub group-trans : (d : Operations) (a b c : ℕ) → Same-group d a b → Same-group d b c → Same-group d a c
 group-trans d a b c s t = (reach-trans d (s .0) (t .0), reach-trans d (t .1) (s .1))
+
+pub groups-part : Groups-part
+groups-part d = record {
+  in-one = group-self d;
+  not-in-two = λ p q r s t. group-trans d q p r (group-sym d p q s) t;
+  dirty-only = λ p q s. (reach-from d (s .0), reach-to d (s .0));
+}
 
 -- the order among groups
 pub directly-reaches : (d : Operations) (a b : ℕ) → Directly-before d a b → Reaches d a b

@@ -251,5 +251,16 @@ module _ (h : History) (I : ℕ → Bool) (n : ℕ) (p : ℕ) (G : ℕ → Bool)
       image-at q true g = cond-true (G q) (after h n q) (w q) g ∙ sym (image-all h J n q (all-in q g))
       image-at q false out = cond-false (G q) (after h n q) (w q) out ∙ kept .images q ∙ image-like h I J n q (none-new q out)
 
+joined-dirty : (a b i t : Bool) → (a && (b && not (i || ((a && (b && not i)) && t)))) ≡ ((a && (b && not i)) && not t)
+joined-dirty false b i t = refl
+joined-dirty true false i t = refl
+joined-dirty true true true t = refl
+joined-dirty true true false true = refl
+joined-dirty true true false false = refl
+
 pub group-installs : Group-installs
-group-installs h I n w p G ran kept ready is-group = (keeps h I n p G ran ready is-group w kept, rest h I n p G ran ready is-group)
+group-installs h I n w p G ran kept ready is-group = record {
+  installed = keeps h I n p G ran ready is-group w kept;
+  rest = rest h I n p G ran ready is-group;
+  still-dirty = λ m. joined-dirty (leb (h .first) m) (ltb m n) (I m) (some page-count (λ q. writes h m q && G q));
+}

@@ -8,26 +8,35 @@ use native.Mathlib.Omega.{arith}
 use lib.Dec.{leb, ltb, eqb}
 use Rattle.std.specs.declared.option.Option.{Option}
 use Rattle.std.specs.declared.option.Option.the-variants.{Some, None}
-use Rattle.std.proofs.shelf.Tests.{both-ways, cond-true, cond-false, cases-bool, cases-lt, cases-eq, and-parts, and-from, and-left, or-left, or-right, or-cases, leb-true, le-leb, lt-leb, eq-eqb, ne-eqb}
+use Rattle.std.proofs.shelf.Tests.{both-ways, cond-true, cond-false, cases-bool, cases-lt, cases-eq, and-parts, and-from, and-left, and-right, or-left, or-right, or-cases, leb-true, le-leb, lt-leb, lt-ltb, le-ltb, eq-eqb, ne-eqb, not-from-true}
 use Rattle.redo.specs.Histories.{page-count, Page, Operation, History, reads, writes, touches, contents-of, effect-on, renewed, run, after, image, Well-formed, Ran}
-use Rattle.redo.specs.Prefixes.{Prefix, Installed}
+use Rattle.redo.specs.Prefixes.{uninstalled, Prefix, Installed}
 use Rattle.redo.specs.Installation.{extended, trimmed}
 use Rattle.redo.specs.Theorems.{Run-keeps, Loss-keeps, Trim-keeps}
+use Rattle.redo.proofs.InstallLaws.{uninstalled-from}
 use Rattle.redo.proofs.HistoryLaws.{writes-from, reads-from, after-suc, run-unwritten, image-outside, image-unwritten, image-all, image-still, image-below}
+
+or-none : (x y : Bool) → y ≡ false → (x || y) ≡ x
+or-none true y e = refl
+or-none false y e = e
+
+and-all : (x y : Bool) → y ≡ true → (x && y) ≡ x
+and-all true y e = e
+and-all false y e = refl
 
 -- ---- one more operation
 
 module _ (h : History) (n : ℕ) (o : Operation) where
-  same-operation : (m : ℕ) → m < n → extended h n o .operation m ≡ h .operation m
+  pub same-operation : (m : ℕ) → m < n → extended h n o .operation m ≡ h .operation m
   same-operation m l = cond-false (eqb m n) o (h .operation m) (ne-eqb m n (λ e. omega arith))
 
-  new-operation : extended h n o .operation n ≡ o
+  pub new-operation : extended h n o .operation n ≡ o
   new-operation = cond-true (eqb n n) o (h .operation n) (eq-eqb n n refl)
 
-  writes-same : (m p : ℕ) → m < n → writes (extended h n o) m p ≡ writes h m p
+  pub writes-same : (m p : ℕ) → m < n → writes (extended h n o) m p ≡ writes h m p
   writes-same m p l = ap (λ (x : Operation). leb (h .first) m && x .writes p) (same-operation m l)
 
-  reads-same : (m p : ℕ) → m < n → reads (extended h n o) m p ≡ reads h m p
+  pub reads-same : (m p : ℕ) → m < n → reads (extended h n o) m p ≡ reads h m p
   reads-same m p l = ap (λ (x : Operation). leb (h .first) m && x .reads p) (same-operation m l)
 
   pub extended-after : (m : ℕ) → m ≤ n → after (extended h n o) m ≡ after h m
@@ -46,10 +55,26 @@ module _ (h : History) (n : ℕ) (o : Operation) where
       ∙ ap (λ (w : ℕ → Page). cond (I m && writes h m p) (w p) (image h I m p)) (extended-after (suc m) l)
 
 pub run-keeps : Run-keeps
-run-keeps h I n w o new ran kept f well ok = (ran′, kept′, λ p. ap (λ (v : ℕ → Page). v p) (extended-after h n o n (omega arith)))
+run-keeps h I n w o new ran kept f well ok = record {
+  ran = ran′;
+  installed = kept′;
+  same-pages = λ m p l. ap (λ (v : ℕ → Page). v p) (extended-after h n o m l);
+  newly-dirty = λ m. dirty-at m (cases-eq m n);
+}
   where
-    h′ : History
-    h′ = extended h n o
+    not-yet : I n ≡ false
+    not-yet = elim (cases-bool (I n)) [ inl i ↦ absurd (omega (arith, kept .were-run n i)) | inr out ↦ out ]
+
+    dirty-at : (m : ℕ) → (m ≡ n) ⊎ (m ≡ n → ⊥) → uninstalled (extended h n o) I (suc n) m ≡ (uninstalled h I n m || eqb m n)
+    dirty-at m (inl same) =
+        uninstalled-from (extended h n o) I (suc n) m (omega arith) (omega arith) (ap I same ∙ not-yet)
+        ∙ sym (or-right (uninstalled h I n m) (eqb m n) (eq-eqb m n same))
+    dirty-at m (inr other) =
+        ap (λ b. leb (h .first) m && (b && not (I m))) (elim (cases-lt m n) [
+          | inl l ↦ lt-ltb m (suc n) (omega arith) ∙ sym (lt-ltb m n l)
+          | inr g ↦ le-ltb m (suc n) (omega arith) ∙ sym (le-ltb m n g)
+        ])
+        ∙ sym (or-none (uninstalled h I n m) (eqb m n) (ne-eqb m n other))
 
     well-at : (m : ℕ) → h .first ≤ m → m < suc n → Well-formed (extended h n o .operation m)
     well-at m g l = elim (cases-eq m n) [
@@ -80,36 +105,45 @@ run-keeps h I n w o new ran kept f well ok = (ran′, kept′, λ p. ap (λ (v :
       is-prefix = brings;
       images = λ p. kept .images p ∙ sym (extended-image h n o I n p (omega arith)) ∙ sym (image-outside (extended h n o) I n p not-yet);
     }
-      where
-        not-yet : I n ≡ false
-        not-yet = elim (cases-bool (I n)) [ inl i ↦ absurd (omega (arith, kept .were-run n i)) | inr out ↦ out ]
 
 -- ---- operations lost at the end
 
 pub loss-keeps : Loss-keeps
-loss-keeps h I n k w ran kept l none = (
-  record {
-    starts-below = ran .starts-below;
-    well-formed = λ m f b. ran .well-formed m f (omega arith);
-    accepted = λ m f b. ran .accepted m f (omega arith);
-  },
-  record {
-    were-run = none;
-    is-prefix = λ O P x a b. kept .is-prefix O P x a (omega arith);
-    images = λ p. kept .images p ∙ image-still h I k n p l (λ m a b wr. out m a);
-  },
-)
+loss-keeps h I n k w ran kept l none =
+    record { ran = ran′; installed = kept′; still-dirty = λ m. dirty-at m (cases-lt m k) }
   where
     out : (m : ℕ) → k ≤ m → I m ≡ false
     out m a = elim (cases-bool (I m)) [ inl i ↦ absurd (omega (arith, none m i)) | inr o ↦ o ]
 
+    ran′ : Ran h k
+    ran′ = record {
+      starts-below = ran .starts-below;
+      well-formed = λ m f b. ran .well-formed m f (omega arith);
+      accepted = λ m f b. ran .accepted m f (omega arith);
+    }
+
+    kept′ : Installed h I k w
+    kept′ = record {
+      were-run = none;
+      is-prefix = λ O P x a b. kept .is-prefix O P x a (omega arith);
+      images = λ p. kept .images p ∙ image-still h I k n p l (λ m a b wr. out m a);
+    }
+
+    dirty-at : (m : ℕ) → (m < k) ⊎ (k ≤ m) → uninstalled h I k m ≡ (uninstalled h I n m && ltb m k)
+    dirty-at m (inl lt) =
+        ap (λ b. leb (h .first) m && (b && not (I m))) (lt-ltb m k lt ∙ sym (lt-ltb m n (omega arith)))
+        ∙ sym (and-all (uninstalled h I n m) (ltb m k) (lt-ltb m k lt))
+    dirty-at m (inr ge) =
+        and-right (leb (h .first) m) (ltb m k && not (I m)) (and-left (ltb m k) (not (I m)) (le-ltb m k ge))
+        ∙ sym (and-right (uninstalled h I n m) (ltb m k) (le-ltb m k ge))
+
 -- ---- installed operations dropped from the log
 
 module _ (h : History) (k : ℕ) (from-first : h .first ≤ k) where
-  trimmed-writes : (m p : ℕ) → k ≤ m → writes (trimmed h k) m p ≡ writes h m p
+  pub trimmed-writes : (m p : ℕ) → k ≤ m → writes (trimmed h k) m p ≡ writes h m p
   trimmed-writes m p l = ap (λ b. b && h .operation m .writes p) (le-leb k m l ∙ sym (le-leb (h .first) m (omega arith)))
 
-  trimmed-reads : (m p : ℕ) → k ≤ m → reads (trimmed h k) m p ≡ reads h m p
+  pub trimmed-reads : (m p : ℕ) → k ≤ m → reads (trimmed h k) m p ≡ reads h m p
   trimmed-reads m p l = ap (λ b. b && h .operation m .reads p) (le-leb k m l ∙ sym (le-leb (h .first) m (omega arith)))
 
   dropped : (m p : ℕ) → m < k → writes (trimmed h k) m p ≡ false
@@ -158,8 +192,21 @@ module _ (h : History) (k : ℕ) (from-first : h .first ≤ k) where
             ∙ ap (λ (w : ℕ → Page). cond (I m && writes h m p) (w p) (image h I m p)) (trimmed-after (suc m) l)
 
 pub trim-keeps : Trim-keeps
-trim-keeps h I n k w ran kept f l all = (ran′, kept′, λ m p g. ap (λ (v : ℕ → Page). v p) (trimmed-after h k f m g))
+trim-keeps h I n k w ran kept f l all = record {
+  ran = ran′;
+  installed = kept′;
+  same-pages = λ m p g. ap (λ (v : ℕ → Page). v p) (trimmed-after h k f m g);
+  still-dirty = λ m. dirty-at m (cases-lt m k) (cases-lt m (h .first));
+}
   where
+    dirty-at : (m : ℕ) → (m < k) ⊎ (k ≤ m) → (m < h .first) ⊎ (h .first ≤ m) → uninstalled (trimmed h k) I n m ≡ uninstalled h I n m
+    dirty-at m (inl lt) (inl early) =
+        and-left (leb k m) (ltb m n && not (I m)) (lt-leb k m lt) ∙ sym (and-left (leb (h .first) m) (ltb m n && not (I m)) (lt-leb (h .first) m early))
+    dirty-at m (inl lt) (inr g) =
+        and-left (leb k m) (ltb m n && not (I m)) (lt-leb k m lt)
+        ∙ sym (and-right (leb (h .first) m) (ltb m n && not (I m)) (and-right (ltb m n) (not (I m)) (not-from-true (I m) (all m g lt))))
+    dirty-at m (inr ge) b = ap (λ x. x && (ltb m n && not (I m))) (le-leb k m ge ∙ sym (le-leb (h .first) m (omega arith)))
+
     starts : (p : ℕ) → after h k p .number < k
     starts p =
         let e : after h k p ≡ image h (λ _. true) k p = sym (image-all h (λ _. true) k p (λ _ _ _. refl)) in

@@ -7,4 +7,5 @@ pub mod KeepLaws
 pub mod ClosureLaws
 pub mod DecideLaws
 pub mod ReadyLaws
+pub mod CountLaws
 pub mod SituationLaws

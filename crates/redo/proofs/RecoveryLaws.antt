@@ -248,6 +248,7 @@ pub redo-recovers : Redo-recovers
 redo-recovers h I n w ran rec = record {
   installed-told = λ m f l. (λ i. told-in h I n ran pre I w m (rec .numbered) i l, λ up. in-from-above m f l up (I m) refl);
   missing-told = λ m f l. (λ o. told-out h I n ran pre I w m (λ k _. refl) (rec .numbered) o, λ down. out-from-below m f l down (I m) refl);
+  not-mixed = λ m f l. one-of m f l (I m) refl;
   present-then = λ m f l. present-at m f l (I m) refl;
   missing-then = λ m f l. missing-at m f l (I m) refl;
   runs-again = rising-like (λ m. leb (h .first) m && missing h m (redo h m w)) (uninstalled h I n) n (λ m l. again-at m l (leb (h .first) m) refl);
@@ -272,6 +273,10 @@ redo-recovers h I n w ran rec = record {
     out-from-below : (m : ℕ) → h .first ≤ m → m < n → Below h m w → (b : Bool) → I m ≡ b → I m ≡ false
     out-from-below m f l down false e = e
     out-from-below m f l down true e = absurd (not-mixed h I n ran m w f l (told-in h I n ran pre I w m (rec .numbered) e l) down)
+
+    one-of : (m : ℕ) → h .first ≤ m → m < n → (b : Bool) → I m ≡ b → At-or-above h m w ⊎ Below h m w
+    one-of m f l true e = inl (told-in h I n ran pre I w m (rec .numbered) e l)
+    one-of m f l false e = inr (told-out h I n ran pre I w m (λ k _. refl) (rec .numbered) e)
 
     not-both : (m : ℕ) → h .first ≤ m → m < n → present h m (redo h m w) ≡ true → missing h m (redo h m w) ≡ true → ⊥
     not-both m f l a b = not-mixed h I n ran m (redo h m w) f l (present-above h I n ran m (redo h m w) l a) (missing-below h I n ran m (redo h m w) l b)

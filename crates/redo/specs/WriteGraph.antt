@@ -1,8 +1,10 @@
 -- The write graph: arrows between pages over the dirty operations, and the groups of pages that must be installed together.
-use Prim.Native.Nat.{ℕ, _<_}
+use Prim.Native.Nat.{ℕ, _≤_, _<_}
 use mathlib.Core.Path.{_≡_}
 use mathlib.Core.Bool.{Bool, true, false}
 use mathlib.Core.Logic.{_⊎_}
+use Rattle.std.specs.Orderings.{Decides}
+use Rattle.sets.specs.Sets.{count}
 use Rattle.redo.specs.Histories.{page-count, History, reads, writes}
 use Rattle.redo.specs.Prefixes.{uninstalled}
 
@@ -81,6 +83,15 @@ pub record Ready (d : Operations) (p : ℕ) : Type 0 where
 pub record Finite (d : Operations) (n : ℕ) : Type 0 where
   pub few : (m : ℕ) → d .dirty m ≡ true → m < n
   pub on-pages : (m p : ℕ) → d .dirty m ≡ true → d .writes m p ≡ true → p < page-count
+
+-- page q is the lowest of its group
+pub record Lowest-of-group (d : Operations) (q : ℕ) : Type 0 where
+  pub is-dirty : Dirty d q
+  pub least : (x : ℕ) → Same-group d x q → q ≤ x
+
+-- the number of groups is k: each group has one lowest page, and so many pages are the lowest of their group
+abbrev pub Group-count : Operations → ℕ → Type 0
+Group-count d k = (f : ℕ → Bool) × ((q : ℕ) → Decides (f q) (Lowest-of-group d q)) × (k ≡ count f page-count)
 
 -- every dirty operation of d is one of e, with the same number and the same pages
 abbrev pub Among : Operations → Operations → Type 0
