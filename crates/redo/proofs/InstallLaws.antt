@@ -5,14 +5,14 @@ use mathlib.Core.Bool.{Bool, true, false, cond, not, _&&_, _||_}
 use mathlib.Core.Logic.{_⊎_, inl, inr, _↔_}
 use native.Mathlib.Omega.{arith}
 use lib.Dec.{leb, ltb, eqb}
-use Rattle.std.proofs.shelf.Tests.{both-ways, cond-true, cond-false, cases-bool, and-parts, and-from, or-left, or-right, or-from, or-parts, or-cases, leb-true, ltb-true, lt-ltb, le-leb, not-from-true, not-from-false, not-true, and-left}
+use Rattle.std.proofs.shelf.Tests.{both-ways, cond-true, cond-false, cases-bool, and-parts, and-from, or-left, or-right, or-from, or-parts, or-cases, leb-true, ltb-true, lt-ltb, le-leb, not-from-true, not-from-false, not-true, not-false, and-left, and-cases, cases-order}
 use Rattle.redo.specs.Histories.{page-count, Page, Operation, History, reads, writes, touches, contents-of, effect-on, renewed, run, after, image, Ran}
-use Rattle.redo.specs.Prefixes.{uninstalled, Prefix, Installed}
+use Rattle.redo.specs.Prefixes.{uninstalled, Prefix, Untouched, First-reads, Exposed, Recoverable, Installed}
 use Rattle.redo.specs.Recovery.{some}
 use Rattle.redo.specs.WriteGraph.{Operations, operations, Writes-both, Reads-before, Arrow, Reaches, one, more, Dirty, Same-group, Directly-before, Ready, Finite}
 use Rattle.redo.specs.Installation.{Is-group, joined, stored-with}
-use Rattle.redo.specs.Theorems.{Rest, Group-installs, History-finite}
-use Rattle.redo.proofs.TestLaws.{some-from, some-at}
+use Rattle.redo.specs.Theorems.{Rest, Group-installs, Group-explains, History-finite}
+use Rattle.redo.proofs.TestLaws.{some-from, some-at, least}
 use Rattle.redo.proofs.HistoryLaws.{writes-from, reads-from, image-all, image-like}
 use Rattle.redo.proofs.GraphLaws.{reach-trans, dirty-arrow, arrow-from, group-self}
 
@@ -188,8 +188,58 @@ module _ (h : History) (I : ℕ → Bool) (n : ℕ) (p : ℕ) (G : ℕ → Bool)
     order = λ a b. (λ s. (order-was a b s, reach-out (s .from-group .0)), λ x. order-keeps a b (x .0) (x .1));
   }
 
+  new-brings : (O P x : ℕ) → O < P → P < n → (uninstalled h I n P && into P) ≡ true → writes h P x ≡ true → touches h O x ≡ true → I O ≡ false → J O ≡ true
+  new-brings O P x l pn new wr t out =
+      let g = joined-writes P x new wr in
+      let dirty-P = and-parts (uninstalled h I n P) (into P) new .0 in
+      elim (or-cases (reads h O x) (writes h O x) t) [
+        | inl rd ↦
+            let f = reads-from h O x rd in
+            let dirty-O = uninstalled-from h I n O f (omega arith) out in
+            let a = ran .well-formed O f (omega arith) .writes-some in
+            let wa : writes h O (a .0) ≡ true = and-from (leb (h .first) O) (h .operation O .writes (a .0)) (le-leb (h .first) O f) (a .1) in
+            joins O (a .0) dirty-O wa (closed (a .0) x (inr (record {
+              O = O;
+              P = P;
+              page = x;
+              O-dirty = dirty-O;
+              P-dirty = dirty-P;
+              earlier = l;
+              writes-a = wa;
+              writes-b = wr;
+              O-reads = rd;
+              P-writes = wr;
+            })) g)
+        | inr wo ↦ joins O x (uninstalled-from h I n O (writes-from h O x wo) (omega arith) out) wo g
+      ]
+
+  brings : Prefix h I n → Prefix h J n
+  brings pre O P x l pn j wr t = elim (or-cases (I P) (uninstalled h I n P && into P) j) [
+    | inl i ↦ or-left (I O) (uninstalled h I n O && into O) (pre O P x l pn i wr t)
+    | inr new ↦ elim (cases-bool (I O)) [
+      | inl i ↦ or-left (I O) (uninstalled h I n O && into O) i
+      | inr out ↦ new-brings O P x l pn new wr t out
+    ]
+  ]
+
+  all-in : (q : ℕ) → G q ≡ true → (m : ℕ) → m < n → writes h m q ≡ true → J m ≡ true
+  all-in q g m l wr = elim (cases-bool (I m)) [
+    | inl i ↦ or-left (I m) (uninstalled h I n m && into m) i
+    | inr out ↦ joins m q (uninstalled-from h I n m (writes-from h m q wr) l out) wr g
+  ]
+
+  none-new : (q : ℕ) → G q ≡ false → (m : ℕ) → m < n → writes h m q ≡ true → I m ≡ J m
+  none-new q out m l wr = elim (cases-bool (uninstalled h I n m && into m)) [
+    | inl new ↦ absurd (both-ways (G q) out (joined-writes m q new wr))
+    | inr o ↦ same (I m) (uninstalled h I n m && into m) o
+  ]
+    where
+      same : (a b : Bool) → b ≡ false → a ≡ (a || b)
+      same true b o = refl
+      same false b o = sym o
+
   pub keeps : (w : ℕ → Page) → Installed h I n w → Installed h J n (stored-with h n G w)
-  keeps w kept = record { were-run = run-at; is-prefix = brings; images = λ q. image-at q (G q) refl }
+  keeps w kept = record { were-run = run-at; is-prefix = brings (kept .is-prefix); images = λ q. image-at q (G q) refl }
     where
       run-at : (m : ℕ) → J m ≡ true → m < n
       run-at m j = elim (or-cases (I m) (uninstalled h I n m && into m) j) [
@@ -197,59 +247,64 @@ module _ (h : History) (I : ℕ → Bool) (n : ℕ) (p : ℕ) (G : ℕ → Bool)
         | inr new ↦ uninstalled-parts h I n m (and-parts (uninstalled h I n m) (into m) new .0) .1
       ]
 
-      new-brings : (O P x : ℕ) → O < P → P < n → (uninstalled h I n P && into P) ≡ true → writes h P x ≡ true → touches h O x ≡ true → I O ≡ false → J O ≡ true
-      new-brings O P x l pn new wr t out =
-          let g = joined-writes P x new wr in
-          let dirty-P = and-parts (uninstalled h I n P) (into P) new .0 in
-          elim (or-cases (reads h O x) (writes h O x) t) [
-            | inl rd ↦
-                let f = reads-from h O x rd in
-                let dirty-O = uninstalled-from h I n O f (omega arith) out in
-                let a = ran .well-formed O f (omega arith) .writes-some in
-                let wa : writes h O (a .0) ≡ true = and-from (leb (h .first) O) (h .operation O .writes (a .0)) (le-leb (h .first) O f) (a .1) in
-                joins O (a .0) dirty-O wa (closed (a .0) x (inr (record {
-                  O = O;
-                  P = P;
-                  page = x;
-                  O-dirty = dirty-O;
-                  P-dirty = dirty-P;
-                  earlier = l;
-                  writes-a = wa;
-                  writes-b = wr;
-                  O-reads = rd;
-                  P-writes = wr;
-                })) g)
-            | inr wo ↦ joins O x (uninstalled-from h I n O (writes-from h O x wo) (omega arith) out) wo g
-          ]
-
-      brings : Prefix h J n
-      brings O P x l pn j wr t = elim (or-cases (I P) (uninstalled h I n P && into P) j) [
-        | inl i ↦ or-left (I O) (uninstalled h I n O && into O) (kept .is-prefix O P x l pn i wr t)
-        | inr new ↦ elim (cases-bool (I O)) [
-          | inl i ↦ or-left (I O) (uninstalled h I n O && into O) i
-          | inr out ↦ new-brings O P x l pn new wr t out
-        ]
-      ]
-
-      all-in : (q : ℕ) → G q ≡ true → (m : ℕ) → m < n → writes h m q ≡ true → J m ≡ true
-      all-in q g m l wr = elim (cases-bool (I m)) [
-        | inl i ↦ or-left (I m) (uninstalled h I n m && into m) i
-        | inr out ↦ joins m q (uninstalled-from h I n m (writes-from h m q wr) l out) wr g
-      ]
-
-      none-new : (q : ℕ) → G q ≡ false → (m : ℕ) → m < n → writes h m q ≡ true → I m ≡ J m
-      none-new q out m l wr = elim (cases-bool (uninstalled h I n m && into m)) [
-        | inl new ↦ absurd (both-ways (G q) out (joined-writes m q new wr))
-        | inr o ↦ same (I m) (uninstalled h I n m && into m) o
-      ]
-        where
-          same : (a b : Bool) → b ≡ false → a ≡ (a || b)
-          same true b o = refl
-          same false b o = sym o
-
       image-at : (q : ℕ) (b : Bool) → G q ≡ b → stored-with h n G w q ≡ image h J n q
       image-at q true g = cond-true (G q) (after h n q) (w q) g ∙ sym (image-all h J n q (all-in q g))
       image-at q false out = cond-false (G q) (after h n q) (w q) out ∙ kept .images q ∙ image-like h I J n q (none-new q out)
+
+  -- a page outside the group that is exposed now was exposed before
+  was-exposed : (q : ℕ) → G q ≡ false → Exposed h J n q → Exposed h I n q
+  was-exposed q out ex = go (least (λ m. not (I m) && touches h m q) n)
+    where
+      outside-both : (m : ℕ) → J m ≡ false → I m ≡ false
+      outside-both m o = or-parts (I m) (uninstalled h I n m && into m) o .0
+
+      quiet : (j : ℕ) → ((k : ℕ) → k < j → (not (I k) && touches h k q) ≡ false) → Untouched h I j q
+      quiet j none k l o = elim (and-cases (not (I k)) (touches h k q) (none k l)) [
+        | inl i ↦ absurd (both-ways (I k) o (not-false (I k) i))
+        | inr t ↦ t
+      ]
+
+      -- the first operation outside I that touches the page writes it, so it is outside J as well
+      blind : (m : ℕ) → m < n → I m ≡ false → reads h m q ≡ false → writes h m q ≡ true → ((k : ℕ) → k < m → (not (I k) && touches h k q) ≡ false) → Exposed h J n q → ⊥
+      blind m l o unread wr none (inl untouched) = both-ways (touches h m q) (untouched m l (sym (none-new q out m l wr) ∙ o)) (or-right (reads h m q) (writes h m q) wr)
+      blind m l o unread wr none (inr x) = elim (cases-order (x .op) m) [
+        | inl same ↦ both-ways (reads h m q) unread (subst (λ (k : ℕ). reads h k q ≡ true) same (x .reads-it))
+        | inr (inl lt) ↦
+            both-ways (touches h (x .op) q) (quiet m none (x .op) lt (outside-both (x .op) (x .outside))) (or-left (reads h (x .op) q) (writes h (x .op) q) (x .reads-it))
+        | inr (inr gt) ↦
+            both-ways (touches h m q) (x .none-earlier m gt (sym (none-new q out m l wr) ∙ o)) (or-right (reads h m q) (writes h m q) wr)
+      ]
+
+      at : (m : ℕ) → m < n → (not (I m) && touches h m q) ≡ true → ((k : ℕ) → k < m → (not (I k) && touches h k q) ≡ false) → (b : Bool) → reads h m q ≡ b → Exposed h I n q
+      at m l hit none true rd =
+          inr (record { op = m; below = l; outside = not-true (I m) (and-parts (not (I m)) (touches h m q) hit .0); reads-it = rd; none-earlier = quiet m none })
+      at m l hit none false unread =
+          let u = and-parts (not (I m)) (touches h m q) hit in
+          elim (or-cases (reads h m q) (writes h m q) (u .1)) [
+            | inl rd ↦ absurd (both-ways (reads h m q) unread rd)
+            | inr wr ↦ absurd (blind m l (not-true (I m) (u .0)) unread wr none ex)
+          ]
+
+      go : ((k : ℕ) → k < n → (not (I k) && touches h k q) ≡ false) ⊎ ((m : ℕ) × (m < n) × ((not (I m) && touches h m q) ≡ true) × ((k : ℕ) → k < m → (not (I k) && touches h k q) ≡ false)) → Exposed h I n q
+      go (inl none) = inl (quiet n none)
+      go (inr (m, l, hit, none)) = at m l hit none (reads h m q) refl
+
+  pub explains-still : (w : ℕ → Page) → Recoverable h I n w → Recoverable h J n (stored-with h n G w)
+  explains-still w rec = record { is-prefix = brings (rec .is-prefix); explains = λ q ex. contents-at q ex (G q) refl; numbered = λ q. number-at q (G q) refl }
+    where
+      contents-at : (q : ℕ) → Exposed h J n q → (b : Bool) → G q ≡ b → stored-with h n G w q .contents ≡ image h J n q .contents
+      contents-at q ex true g = ap (λ (x : Page). x .contents) (cond-true (G q) (after h n q) (w q) g ∙ sym (image-all h J n q (all-in q g)))
+      contents-at q ex false out =
+          ap (λ (x : Page). x .contents) (cond-false (G q) (after h n q) (w q) out)
+          ∙ rec .explains q (was-exposed q out ex)
+          ∙ ap (λ (x : Page). x .contents) (image-like h I J n q (none-new q out))
+
+      number-at : (q : ℕ) (b : Bool) → G q ≡ b → stored-with h n G w q .number ≡ image h J n q .number
+      number-at q true g = ap (λ (x : Page). x .number) (cond-true (G q) (after h n q) (w q) g ∙ sym (image-all h J n q (all-in q g)))
+      number-at q false out =
+          ap (λ (x : Page). x .number) (cond-false (G q) (after h n q) (w q) out)
+          ∙ rec .numbered q
+          ∙ ap (λ (x : Page). x .number) (image-like h I J n q (none-new q out))
 
 joined-dirty : (a b i t : Bool) → (a && (b && not (i || ((a && (b && not i)) && t)))) ≡ ((a && (b && not i)) && not t)
 joined-dirty false b i t = refl
@@ -264,3 +319,6 @@ group-installs h I n w p G ran kept ready is-group = record {
   rest = rest h I n p G ran ready is-group;
   still-dirty = λ m. joined-dirty (leb (h .first) m) (ltb m n) (I m) (some page-count (λ q. writes h m q && G q));
 }
+
+pub group-explains : Group-explains
+group-explains h I n w p G ran rec ready is-group = explains-still h I n p G ran ready is-group w rec

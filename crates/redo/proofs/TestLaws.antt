@@ -42,3 +42,15 @@ pub rising-like : (f g : ℕ → Bool) (n : ℕ) → ((k : ℕ) → k < n → f 
 unfolding rising
 rising-like f g zero same = refl
 rising-like f g (suc n) same = ap₂ (λ (xs : List ℕ) (b : Bool). xs ++ cond b (n ∷ []) []) (rising-like f g n (λ k l. same k (omega arith))) (same n (omega arith))
+
+-- the first number below n that passes a test, if there is one
+pub least : (f : ℕ → Bool) (n : ℕ) → ((k : ℕ) → k < n → f k ≡ false) ⊎ ((m : ℕ) × (m < n) × (f m ≡ true) × ((k : ℕ) → k < m → f k ≡ false))
+least f zero = inl (λ k l. absurd (omega arith))
+least f (suc n) = go (least f n) (f n) refl
+  where
+    go : ((k : ℕ) → k < n → f k ≡ false) ⊎ ((m : ℕ) × (m < n) × (f m ≡ true) × ((k : ℕ) → k < m → f k ≡ false))
+        → (b : Bool) → f n ≡ b
+        → ((k : ℕ) → k < suc n → f k ≡ false) ⊎ ((m : ℕ) × (m < suc n) × (f m ≡ true) × ((k : ℕ) → k < m → f k ≡ false))
+    go (inr (m, l, hit, none)) b e = inr (m, omega arith, hit, none)
+    go (inl none) true e = inr (n, omega arith, e, none)
+    go (inl none) false e = inl (λ k l. elim (cases-eq k n) [ inl same ↦ ap f same ∙ e | inr other ↦ none k (omega arith) ])

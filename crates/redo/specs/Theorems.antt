@@ -56,7 +56,13 @@ Group-installs =
     (h : History) (I : ℕ → Bool) (n : ℕ) (w : ℕ → Page) (p : ℕ) (G : ℕ → Bool) → Ran h n → Installed h I n w
     → Ready (operations h I n) p → Is-group (operations h I n) p G → After-install h I n w G
 
--- that leaves one group fewer
+-- where the installed operations only explain the stored pages, they do so still
+abbrev pub Group-explains : Type 0
+Group-explains =
+    (h : History) (I : ℕ → Bool) (n : ℕ) (w : ℕ → Page) (p : ℕ) (G : ℕ → Bool) → Ran h n → Recoverable h I n w
+    → Ready (operations h I n) p → Is-group (operations h I n) p G → Recoverable h (joined h I n G) n (stored-with h n G w)
+
+-- the install leaves one group fewer
 abbrev pub One-group-fewer : Type 0
 One-group-fewer =
     (d e : Operations) (n p : ℕ) (G : ℕ → Bool) (k j : ℕ) → Finite d n → Dirty d p → Is-group d p G → Rest d e G

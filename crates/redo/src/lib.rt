@@ -1,6 +1,6 @@
 // The theory of redo recovery. The definitions and the theorems stand in specs/; each function here promises one of the theorems.
 ghost use Rattle.redo.specs.Situations.{Situations-shown};
-ghost use Rattle.redo.specs.Theorems.{No-groups-clean, One-group-fewer, Groups-part, Redo-recovers, Installed-recoverable, Group-installs, No-circle, Some-ready, History-finite, Graph-by-operations, Run-keeps, Loss-keeps, Trim-keeps};
+ghost use Rattle.redo.specs.Theorems.{No-groups-clean, One-group-fewer, Groups-part, Redo-recovers, Installed-recoverable, Group-installs, Group-explains, No-circle, Some-ready, History-finite, Graph-by-operations, Run-keeps, Loss-keeps, Trim-keeps};
 
 // Redo recovers: numbers tell what is installed, each operation that runs again has its first effect, and all pages come back.
 pub fn redo_recovers() -> u8
@@ -19,6 +19,13 @@ pub fn installed_recoverable() -> u8
 // A group that has none directly before it can be installed; the other groups and their order stay.
 pub fn group_installs() -> u8
     ensures { λ _. ⌜ Group-installs ⌝ }
+{
+    0
+}
+
+// The install of a group keeps what redo needs, also where the installed operations do no more than explain the stored pages.
+pub fn group_explains() -> u8
+    ensures { λ _. ⌜ Group-explains ⌝ }
 {
     0
 }
