@@ -3,3 +3,4 @@ pub mod ArrowLaws
 pub mod CloseLaws
 pub mod GroupLaws
 pub mod TableLaws
+pub mod ListLaws

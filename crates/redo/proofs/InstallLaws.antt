@@ -306,7 +306,7 @@ module _ (h : History) (I : ℕ → Bool) (n : ℕ) (p : ℕ) (G : ℕ → Bool)
           ∙ rec .numbered q
           ∙ ap (λ (x : Page). x .number) (image-like h I J n q (none-new q out))
 
-joined-dirty : (a b i t : Bool) → (a && (b && not (i || ((a && (b && not i)) && t)))) ≡ ((a && (b && not i)) && not t)
+pub joined-dirty : (a b i t : Bool) → (a && (b && not (i || ((a && (b && not i)) && t)))) ≡ ((a && (b && not i)) && not t)
 joined-dirty false b i t = refl
 joined-dirty true false i t = refl
 joined-dirty true true true t = refl

@@ -16,7 +16,7 @@ use Rattle.redo.specs.Theorems.{Run-keeps, Loss-keeps, Trim-keeps}
 use Rattle.redo.proofs.InstallLaws.{uninstalled-from}
 use Rattle.redo.proofs.HistoryLaws.{writes-from, reads-from, after-suc, run-unwritten, image-outside, image-unwritten, image-all, image-still, image-below}
 
-or-none : (x y : Bool) → y ≡ false → (x || y) ≡ x
+pub or-none : (x y : Bool) → y ≡ false → (x || y) ≡ x
 or-none true y e = refl
 or-none false y e = e
 
@@ -54,17 +54,11 @@ module _ (h : History) (n : ℕ) (o : Operation) where
       ap₂ (λ (b : Bool) (x : Page). cond (I m && b) (after (extended h n o) (suc m) p) x) (writes-same m p l) (extended-image I m p (omega arith))
       ∙ ap (λ (w : ℕ → Page). cond (I m && writes h m p) (w p) (image h I m p)) (extended-after (suc m) l)
 
-pub run-keeps : Run-keeps
-run-keeps h I n w o new ran kept f well ok = record {
-  ran = ran′;
-  installed = kept′;
-  same-pages = λ m p l. ap (λ (v : ℕ → Page). v p) (extended-after h n o m l);
-  newly-dirty = λ m. dirty-at m (cases-eq m n);
-}
+-- it alone becomes dirty
+pub newly-dirty : (h : History) (I : ℕ → Bool) (n : ℕ) (o : Operation) → h .first ≤ n → I n ≡ false
+    → (m : ℕ) → uninstalled (extended h n o) I (suc n) m ≡ (uninstalled h I n m || eqb m n)
+newly-dirty h I n o f not-yet m = dirty-at m (cases-eq m n)
   where
-    not-yet : I n ≡ false
-    not-yet = elim (cases-bool (I n)) [ inl i ↦ absurd (omega (arith, kept .were-run n i)) | inr out ↦ out ]
-
     dirty-at : (m : ℕ) → (m ≡ n) ⊎ (m ≡ n → ⊥) → uninstalled (extended h n o) I (suc n) m ≡ (uninstalled h I n m || eqb m n)
     dirty-at m (inl same) =
         uninstalled-from (extended h n o) I (suc n) m (omega arith) (omega arith) (ap I same ∙ not-yet)
@@ -75,6 +69,17 @@ run-keeps h I n w o new ran kept f well ok = record {
           | inr g ↦ le-ltb m (suc n) (omega arith) ∙ sym (le-ltb m n g)
         ])
         ∙ sym (or-none (uninstalled h I n m) (eqb m n) (ne-eqb m n other))
+
+pub run-keeps : Run-keeps
+run-keeps h I n w o new ran kept f well ok = record {
+  ran = ran′;
+  installed = kept′;
+  same-pages = λ m p l. ap (λ (v : ℕ → Page). v p) (extended-after h n o m l);
+  newly-dirty = newly-dirty h I n o f not-yet;
+}
+  where
+    not-yet : I n ≡ false
+    not-yet = elim (cases-bool (I n)) [ inl i ↦ absurd (omega (arith, kept .were-run n i)) | inr out ↦ out ]
 
     well-at : (m : ℕ) → h .first ≤ m → m < suc n → Well-formed (extended h n o .operation m)
     well-at m g l = elim (cases-eq m n) [
