@@ -1,0 +1,11 @@
+pub mod TestLaws
+pub mod HistoryLaws
+pub mod RecoveryLaws
+pub mod GraphLaws
+pub mod InstallLaws
+pub mod KeepLaws
+pub mod ClosureLaws
+pub mod DecideLaws
+pub mod ReadyLaws
+pub mod CountLaws
+pub mod SituationLaws
