@@ -164,6 +164,14 @@ unfolding count
 count-le f zero = omega arith
 count-le f (suc n) = cond-both (f n) 1 0 (λ x. count f n + x ≤ suc n) (λ _. omega (arith, count-le f n)) (λ _. omega (arith, count-le f n))
 
+pub count-mono : (f : ℕ → Bool) (m n : ℕ) → m ≤ n → count f m ≤ count f n
+unfolding count
+count-mono f m zero h = let z : m ≡ 0 = omega arith in omega (arith, ap (count f) z)
+count-mono f m (suc n) h = elim (cases-lt m (suc n)) [
+    inl l ↦ omega (arith, count-mono f m n (omega arith))
+  | inr g ↦ let z : m ≡ suc n = omega arith in omega (arith, ap (count f) z)
+  ]
+
 -- the page 0 apart
 count-shift : (f : ℕ → Bool) (n : ℕ) → count f (suc n) ≡ cond (f 0) 1 0 + count (λ p. f (suc p)) n
 unfolding count
