@@ -131,7 +131,9 @@ pub impl PartialEq<Fault> for Fault as FaultPartialEq {
     ghost equals = { λ f g r. Decides r (report f ≡ report g) };
 
     fn eq(&self, other: &Fault) -> bool {
-        self.number() == other.number() && self.place() == other.place() && self.code() == other.code()
+        self.number() == other.number()
+            && self.place() == other.place()
+            && self.code() == other.code()
     }
 }
 

@@ -31,7 +31,7 @@ put-behind k a bs d l =
     ∙ ap₂ (λ x y. x ++ (d ++ drop 256 y)) (drop-take k a bs) (sym (drop-drop a k bs))
 
 pub chunks-put : (n : ℕ) (bs : List ℕ) (b : ℕ) (d : List ℕ) → b < n → 256 * n ≤ length bs → length d ≡ 256
-  → chunks n (putMid (256 * b) 256 bs d) ≡ set (chunks n bs) b d
+    → chunks n (putMid (256 * b) 256 bs d) ≡ set (chunks n bs) b d
 unfolding chunks
 chunks-put zero bs b d h l e = absurd (omega arith)
 chunks-put (suc n) bs zero d h l e = ap₂ _∷_ (take-at d (drop 256 bs) 256 e) (ap (chunks n) (drop-at d (drop 256 bs) 256 e))
@@ -42,27 +42,28 @@ chunks-put (suc n) bs (suc b) d h l e =
     let at : 256 * suc b ≡ 256 + 256 * b = omega arith in
     let le : 256 * suc b ≤ length bs = omega (arith, mul-le-mul-left 256 h) in
     ap₂ _∷_
-      (take-putMid-below (256 * suc b) 256 bs d 256 (omega arith) le)
-      (ap (chunks n) (ap (λ a. drop 256 (putMid a 256 bs d)) at ∙ put-behind 256 (256 * b) bs d (omega arith))
-      ∙ chunks-put n (drop 256 bs) b d (omega arith) (omega arith) e)
+    (take-putMid-below (256 * suc b) 256 bs d 256 (omega arith) le)
+    (ap (chunks n) (ap (λ a. drop 256 (putMid a 256 bs d)) at ∙ put-behind 256 (256 * b) bs d (omega arith))
+    ∙ chunks-put n (drop 256 bs) b d (omega arith) (omega arith) e)
 
 -- a block written among bytes that stay as many: the blocks, and what is behind the last
 pub length-put : (a : ℕ) (bs d : List ℕ) → a + 256 ≤ length bs → length d ≡ 256 → length (putMid a 256 bs d) ≡ length bs
 length-put a bs d l e = simp (length-append, length-take, length-drop) (omega arith)
 
 pub blocks-put : (bs d : List ℕ) (b : ℕ) → b < fitting bs → length d ≡ 256
-  → (blocksOf (putMid (b * 256) (b * 256 + 256 - b * 256) bs d) ≡ set (blocksOf bs) b d)
-  × (behind (putMid (b * 256) (b * 256 + 256 - b * 256) bs d) ≡ behind bs)
+    → (blocksOf (putMid (b * 256) (b * 256 + 256 - b * 256) bs d) ≡ set (blocksOf bs) b d)
+    × (behind (putMid (b * 256) (b * 256 + 256 - b * 256) bs d) ≡ behind bs)
 blocks-put bs d b h e =
     let k : b * 256 + 256 - b * 256 ≡ 256 = omega arith in
     let le : b * 256 + 256 ≤ length bs = omega arith in
     let at : b * 256 ≡ 256 * b = omega arith in
     let same : fitting (putMid (b * 256) 256 bs d) ≡ fitting bs = ap (λ n. n / 256) (length-put (b * 256) bs d le e) in
-    rw k
-    ( ap (λ n. chunks n (putMid (b * 256) 256 bs d)) same ∙ ap (λ a. chunks (fitting bs) (putMid a 256 bs d)) at
-      ∙ chunks-put (fitting bs) bs b d h (omega arith) e
-    , ap (λ n. drop (256 * n) (putMid (b * 256) 256 bs d)) same
-      ∙ drop-putMid (b * 256) 256 bs d (256 * fitting bs) (omega arith) (omega arith) e )
+    rw k (
+      ap (λ n. chunks n (putMid (b * 256) 256 bs d)) same ∙ ap (λ a. chunks (fitting bs) (putMid a 256 bs d)) at
+          ∙ chunks-put (fitting bs) bs b d h (omega arith) e,
+      ap (λ n. drop (256 * n) (putMid (b * 256) 256 bs d)) same
+          ∙ drop-putMid (b * 256) 256 bs d (256 * fitting bs) (omega arith) (omega arith) e,
+    )
 
 pub chunks-whole : (bs : List ℕ) (b : ℕ) → b < length (blocksOf bs) → length (getD (blocksOf bs) b []) ≡ 256
 chunks-whole bs b h =

@@ -57,7 +57,7 @@ module _ (f : Fate) (m : Device) (b : ℕ) (d : List ℕ) where
 
   -- a write that is carried out
   pub write-carried : begins m b d ≡ true → (o : Option Report) (m′ : Device)
-    → o ≡ check (dies f) (report (PowerLost b)) None → m′ ≡ fated f m b d → WroteBy f m b d o m′
+      → o ≡ check (dies f) (report (PowerLost b)) None → m′ ≡ fated f m b d → WroteBy f m b d o m′
   write-carried h o m′ eo em =
       let p = begins-parts h in
       let x : b < blockCount m = p .0 in
@@ -66,5 +66,5 @@ module _ (f : Fate) (m : Device) (b : ℕ) (d : List ℕ) where
       record { answer = eo ∙ passes (dies f) x y z; after = em ∙ sym (rw h refl) }
     where
       passes : (t : Bool) → b < blockCount m → length d ≡ 256 → m .live ≡ true
-        → check t (report (PowerLost b)) None ≡ check (leb (blockCount m) b) (report (NoSuchBlock b)) (check (not (eqb (length d) 256)) (report (WrongLength (length d))) (check (not (m .live)) (report (PowerLost b)) (check t (report (PowerLost b)) None)))
+          → check t (report (PowerLost b)) None ≡ check (leb (blockCount m) b) (report (NoSuchBlock b)) (check (not (eqb (length d) 256)) (report (WrongLength (length d))) (check (not (m .live)) (report (PowerLost b)) (check t (report (PowerLost b)) None)))
       passes t x y z = grind (arith, tells)

@@ -31,9 +31,9 @@ module _ (a n : ℕ) (m : Device) where
   -- where a block is there, the medium holds the whole partition
   pub part-fits : (b : ℕ) → b < blockCount (partOf a n m) → (a + n ≤ blockCount m) × (b < n)
   part-fits b h = elim (cases-bool (leb (a + n) (blockCount m))) [
-      inl e ↦ let le = leb-true (a + n) (blockCount m) e in let w = part-whole le in (le, omega arith)
+    | inl e ↦ let le = leb-true (a + n) (blockCount m) e in let w = part-whole le in (le, omega arith)
     | inr e ↦ absurd (let z : blockCount (partOf a n m) ≡ 0 = ap (λ t. length (cond t (take n (drop a (m .blocks))) [])) e in omega arith)
-    ]
+  ]
 
   module _ (b : ℕ) (there : b < blockCount (partOf a n m)) where
     part-blocks : partOf a n m .blocks ≡ take n (drop a (m .blocks))
@@ -66,8 +66,8 @@ module _ (a n : ℕ) (m : Device) where
         (told (not (eqb (length d) 256)) (not (m .live)) (dies f))
       where
         told : (x y z : Bool)
-          → mapped (retell b) (check x (report (WrongLength (length d))) (check y (report (PowerLost (a + b))) (check z (report (PowerLost (a + b))) None)))
-          ≡ check x (report (WrongLength (length d))) (check y (report (PowerLost b)) (check z (report (PowerLost b)) None))
+            → mapped (retell b) (check x (report (WrongLength (length d))) (check y (report (PowerLost (a + b))) (check z (report (PowerLost (a + b))) None)))
+            ≡ check x (report (WrongLength (length d))) (check y (report (PowerLost b)) (check z (report (PowerLost b)) None))
         told true y z = refl
         told false true z = refl
         told false false true = refl
@@ -86,7 +86,7 @@ module _ (a n : ℕ) (m : Device) where
     part-fated f d = ap (λ bs. record { blocks = bs; live = not (dies f) }) (landed (lands f))
       where
         landed : (t : Bool) → partOf a n (record { blocks = cond t (set (m .blocks) (a + b) d) (m .blocks); live = not (dies f) }) .blocks
-          ≡ cond t (set (partOf a n m .blocks) b d) (partOf a n m .blocks)
+            ≡ cond t (set (partOf a n m .blocks) b d) (partOf a n m .blocks)
         landed true = put-inside d
         landed false = refl
 
@@ -99,20 +99,20 @@ module _ (a n : ℕ) (m : Device) where
 
     -- the partition's own write
     pub part-wrote : (f : Fate) (d : List ℕ) (o : Option Report) (m′ : Device) → WroteBy f m (a + b) d o m′
-      → WroteBy f (partOf a n m) b d (mapped (retell b) o) (partOf a n m′)
+        → WroteBy f (partOf a n m) b d (mapped (retell b) o) (partOf a n m′)
     part-wrote f d o m′ w = record { answer = ap (mapped (retell b)) (w .answer) ∙ part-write-fault f d; after = ap (partOf a n) (w .after) ∙ part-after f d }
 
     -- no block outside changes
     pub part-outside : (f : Fate) (d : List ℕ) (o : Option Report) (m′ : Device) → WroteBy f m (a + b) d o m′ → SameOutside a n m m′
     part-outside f d o m′ w =
         let lt = part-fits b there .1 in
-        record
-        { front = ap (λ x. take a (x .blocks)) (w .after) ∙ kept (take a) (take-set-le a (m .blocks) (a + b) d (omega arith)) (begins m (a + b) d) (lands f)
-        ; rest = ap (λ x. drop (a + n) (x .blocks)) (w .after) ∙ kept (drop (a + n)) (drop-set-lt (a + n) (m .blocks) (a + b) d (omega arith)) (begins m (a + b) d) (lands f)
+        record {
+          front = ap (λ x. take a (x .blocks)) (w .after) ∙ kept (take a) (take-set-le a (m .blocks) (a + b) d (omega arith)) (begins m (a + b) d) (lands f);
+          rest = ap (λ x. drop (a + n) (x .blocks)) (w .after) ∙ kept (drop (a + n)) (drop-set-lt (a + n) (m .blocks) (a + b) d (omega arith)) (begins m (a + b) d) (lands f);
         }
       where
         kept : (g : List (List ℕ) → List (List ℕ)) → g (set (m .blocks) (a + b) d) ≡ g (m .blocks) → (t u : Bool)
-          → g (cond t (record { blocks = cond u (set (m .blocks) (a + b) d) (m .blocks); live = not (dies f) }) m .blocks) ≡ g (m .blocks)
+            → g (cond t (record { blocks = cond u (set (m .blocks) (a + b) d) (m .blocks); live = not (dies f) }) m .blocks) ≡ g (m .blocks)
         kept g e true true = e
         kept g e true false = refl
         kept g e false u = refl

@@ -52,9 +52,9 @@ module _ (f : Fate) (m m′ : Device) (w : Write) (in′ : w .block < blockCount
   passed h = go (m .live) refl f refl (sym fits-fault ∙ sym (h .answer)) (h .after)
     where
       go : (l : Bool) → m .live ≡ l → (x : Fate) → f ≡ x
-        → check (not (m .live)) (report (PowerLost (w .block))) (check (dies f) (report (PowerLost (w .block))) None) ≡ None
-        → m′ ≡ afterWrite f m (w .block) (w .bytes)
-        → (m .live ≡ true) × (m′ ≡ record { blocks = put (m .blocks) w; live = true })
+          → check (not (m .live)) (report (PowerLost (w .block))) (check (dies f) (report (PowerLost (w .block))) None) ≡ None
+          → m′ ≡ afterWrite f m (w .block) (w .bytes)
+          → (m .live ≡ true) × (m′ ≡ record { blocks = put (m .blocks) w; live = true })
       go false el x ex e a = absurd (let z : _≡_ {A = ℕ} 0 1 = cc in omega arith)
       go true el Lives ex e a = (el, a ∙ ap (λ t. cond t (fated f m (w .block) (w .bytes)) m) (fits-begins ∙ el) ∙ ap (λ y. fated y m (w .block) (w .bytes)) ex)
       go true el DiesOld ex e a = absurd (let z : _≡_ {A = ℕ} 0 1 = cc in omega arith)
@@ -62,13 +62,13 @@ module _ (f : Fate) (m m′ : Device) (w : Write) (in′ : w .block < blockCount
 
   -- it is refused: the medium is dead after it, with the block old or new, and a dead medium is as it was
   pub failed : (r : Report) → WroteBy f m (w .block) (w .bytes) (Some r) m′
-    → (r ≡ report (PowerLost (w .block))) × (m′ .live ≡ false) × ((m′ .blocks ≡ m .blocks) ⊎ ((m .live ≡ true) × (m′ .blocks ≡ put (m .blocks) w)))
+      → (r ≡ report (PowerLost (w .block))) × (m′ .live ≡ false) × ((m′ .blocks ≡ m .blocks) ⊎ ((m .live ≡ true) × (m′ .blocks ≡ put (m .blocks) w)))
   failed r h = go (m .live) refl f refl (h .answer ∙ fits-fault) (h .after)
     where
       go : (l : Bool) → m .live ≡ l → (x : Fate) → f ≡ x
-        → Some r ≡ check (not (m .live)) (report (PowerLost (w .block))) (check (dies f) (report (PowerLost (w .block))) None)
-        → m′ ≡ afterWrite f m (w .block) (w .bytes)
-        → (r ≡ report (PowerLost (w .block))) × (m′ .live ≡ false) × ((m′ .blocks ≡ m .blocks) ⊎ ((m .live ≡ true) × (m′ .blocks ≡ put (m .blocks) w)))
+          → Some r ≡ check (not (m .live)) (report (PowerLost (w .block))) (check (dies f) (report (PowerLost (w .block))) None)
+          → m′ ≡ afterWrite f m (w .block) (w .bytes)
+          → (r ≡ report (PowerLost (w .block))) × (m′ .live ≡ false) × ((m′ .blocks ≡ m .blocks) ⊎ ((m .live ≡ true) × (m′ .blocks ≡ put (m .blocks) w)))
       go false el x ex e a =
           let s : m′ ≡ m = a ∙ ap (λ t. cond t (fated f m (w .block) (w .bytes)) m) (fits-begins ∙ el) in
           let n : r ≡ report (PowerLost (w .block)) = cc in
@@ -94,13 +94,13 @@ count-put : (m m₁ : Device) (w : Write) → m₁ ≡ record { blocks = put (m 
 count-put m m₁ w e = ap blockCount e ∙ length-set (m .blocks) (w .block) (w .bytes)
 
 pub throughout-ran : (P : List (List ℕ) → Type 0) (n : ℕ) {m m′ : Device} {ws : List Write} {o : Option Report}
-  → Ran m ws o m′ → blockCount m ≡ n → Fitting n ws → Throughout P (m .blocks) ws → P (m′ .blocks)
+    → Ran m ws o m′ → blockCount m ≡ n → Fitting n ws → Throughout P (m .blocks) ws → P (m′ .blocks)
 unfolding Throughout Fitting
 throughout-ran P n done e fit t = t
 throughout-ran P n {m} {m′} (stops {w} {ws} {r} f h) e fit t =
     elim (failed f m m′ w (omega (arith, fit .0 .0)) (fit .0 .1) r h .2) [
-      inl old ↦ subst P (sym old) (t .0)
-    | inr new ↦ subst P (sym (new .1)) (throughout-first P (put (m .blocks) w) ws (t .1))
+      | inl old ↦ subst P (sym old) (t .0)
+      | inr new ↦ subst P (sym (new .1)) (throughout-first P (put (m .blocks) w) ws (t .1))
     ]
 throughout-ran P n {m} {m′} (goes {m₁} {w} {ws} f h rest) e fit t =
     let p = passed f m m₁ w (omega (arith, fit .0 .0)) (fit .0 .1) h in
@@ -108,7 +108,7 @@ throughout-ran P n {m} {m′} (goes {m₁} {w} {ws} f h rest) e fit t =
 
 -- a run that passes has made all its writes
 pub ran-passed : (n : ℕ) {m m′ : Device} {ws : List Write} {o : Option Report}
-  → Ran m ws o m′ → o ≡ None → blockCount m ≡ n → Fitting n ws → (m′ .blocks ≡ puts (m .blocks) ws) × (m′ .live ≡ m .live)
+    → Ran m ws o m′ → o ≡ None → blockCount m ≡ n → Fitting n ws → (m′ .blocks ≡ puts (m .blocks) ws) × (m′ .live ≡ m .live)
 unfolding puts Fitting
 ran-passed n done z e fit = (refl, refl)
 ran-passed n (stops f h) z e fit = absurd (let x : _≡_ {A = ℕ} 0 1 = cc in omega arith)
@@ -119,8 +119,8 @@ ran-passed n {m} {m′} (goes {m₁} {w} {ws} f h rest) z e fit =
 
 -- one that is refused lost the power at one of its blocks; on a dead medium that is the first, and nothing changes
 pub ran-failed : (n : ℕ) {m m′ : Device} {ws : List Write} {o : Option Report}
-  → Ran m ws o m′ → (r : Report) → o ≡ Some r → blockCount m ≡ n → Fitting n ws
-  → (i : ℕ) × (i < length ws) × (r ≡ report (PowerLost (getD (map (λ w. w .block) ws) i 0))) × (m′ .live ≡ false) × (m .live ≡ false → (i ≡ 0) × (m′ .blocks ≡ m .blocks))
+    → Ran m ws o m′ → (r : Report) → o ≡ Some r → blockCount m ≡ n → Fitting n ws
+    → (i : ℕ) × (i < length ws) × (r ≡ report (PowerLost (getD (map (λ w. w .block) ws) i 0))) × (m′ .live ≡ false) × (m .live ≡ false → (i ≡ 0) × (m′ .blocks ≡ m .blocks))
 unfolding Fitting
 ran-failed n done r z e fit = absurd (let x : _≡_ {A = ℕ} 0 1 = cc in omega arith)
 ran-failed n {m} {m′} (stops {w} {ws} {r = q} f h) r z e fit =
@@ -170,17 +170,18 @@ fitting-append n (w ∷ ws) vs f g = (f .0, fitting-append n ws vs (f .1) g)
 
 -- A plan of which one write alone changes what is seen: at every point all is old, or all is as that write made it.
 pub atomic : {V : Type 0} (see : List (List ℕ) → V) (bs : List (List ℕ)) (before : List Write) (w : Write) (after : List Write)
-  → Throughout (λ x. see x ≡ see bs) bs before
-  → Throughout (λ x. see x ≡ see (puts bs (before ++ w ∷ []))) (puts bs (before ++ w ∷ [])) after
-  → Throughout (λ x. (see x ≡ see bs) ⊎ (see x ≡ see (puts bs (before ++ w ∷ [])))) bs (before ++ w ∷ after)
+    → Throughout (λ x. see x ≡ see bs) bs before
+    → Throughout (λ x. see x ≡ see (puts bs (before ++ w ∷ []))) (puts bs (before ++ w ∷ [])) after
+    → Throughout (λ x. (see x ≡ see bs) ⊎ (see x ≡ see (puts bs (before ++ w ∷ [])))) bs (before ++ w ∷ after)
 unfolding Throughout puts
 atomic see bs before w after t u =
     let P : List (List ℕ) → Type 0 = λ x. (see x ≡ see bs) ⊎ (see x ≡ see (puts bs (before ++ w ∷ []))) in
     throughout-append P bs before (w ∷ after)
-      (throughout-weaker (λ x. see x ≡ see bs) P (λ x e. inl e) bs before t)
-      ( inl (throughout-last (λ x. see x ≡ see bs) bs before t)
-      , subst (λ x. Throughout P x after) (puts-append bs before (w ∷ []))
-        (throughout-weaker (λ x. see x ≡ see (puts bs (before ++ w ∷ []))) P (λ x e. inr e) (puts bs (before ++ w ∷ [])) after u) )
+    (throughout-weaker (λ x. see x ≡ see bs) P (λ x e. inl e) bs before t) (
+      inl (throughout-last (λ x. see x ≡ see bs) bs before t),
+      subst (λ x. Throughout P x after) (puts-append bs before (w ∷ []))
+          (throughout-weaker (λ x. see x ≡ see (puts bs (before ++ w ∷ []))) P (λ x e. inr e) (puts bs (before ++ w ∷ [])) after u),
+    )
 
 -- ---- on any medium
 

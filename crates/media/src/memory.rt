@@ -10,11 +10,11 @@ ghost use Rattle.faults.specs.Faults.{refusal};
 ghost use Rattle.media.specs.Media.{blockCount, begins, readFault, readInto, Wrote, WroteBy, powered};
 ghost use Rattle.media.specs.Memory.{memory, blocksOf, behind, fitting, fateOf, burnt, renewed};
 use crate::fate::Fate;
-use faults::Fault;
 use crate::fuse::Fuse;
 use crate::fuse::Left;
 use crate::medium::BLOCK;
 use crate::medium::Medium;
+use faults::Fault;
 
 #[derive(Drop)]
 pub struct MemoryMedium<'a> {

@@ -4,8 +4,8 @@ ghost use Rattle.faults.specs.Faults.{refusal, report};
 ghost use Rattle.media.specs.Media.{Wrote, Whole, powered, blockCount};
 ghost use Rattle.media.specs.Parts.{partOf, retell, SameOutside};
 ghost use Prim.Native.Nat.{ℕ, _+_, _^_, _<_};
-use faults::Fault;
 use crate::medium::Medium;
+use faults::Fault;
 
 // Blocks `first` to `first + blocks - 1` of a medium.
 #[derive(Drop)]
@@ -33,7 +33,11 @@ impl<M: Medium> Partition<M> {
     pub fn into_medium(self) -> M
         ensures { λ r. ⌜ r ≡ self .medium ⌝ }
     {
-        let Partition { medium, first: _, blocks: _ } = self;
+        let Partition {
+            medium,
+            first: _,
+            blocks: _,
+        } = self;
         medium
     }
 

@@ -14,6 +14,7 @@ use stores::ShadowStorePageStore;
 
 // A chip of 130 blocks; the store stands on 129 of them, from block 1 on.
 pub const CHIP: usize = 33280;
+
 const IMAGES: usize = 16384;
 
 // Pages 3, 40 and 63.

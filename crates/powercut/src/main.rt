@@ -35,13 +35,19 @@ fn round(rt: &LibcRuntime, kind: Kind, earlier: Option<u64>) -> io::Result<()> {
 }
 
 fn main(rt: LibcRuntime) -> io::Result<()> {
-    println!(rt, "power cut at each block write of an install of pages 3, 40 and 63")?;
+    println!(
+        rt,
+        "power cut at each block write of an install of pages 3, 40 and 63"
+    )?;
     for kind in [Kind::Journal, Kind::Shadow] {
         println!(rt, "")?;
         report::heading(&rt, kind)?;
         round(&rt, kind, None)?;
     }
     println!(rt, "")?;
-    println!(rt, "journal store, cut before at write 6, so that the next install settles first")?;
+    println!(
+        rt,
+        "journal store, cut before at write 6, so that the next install settles first"
+    )?;
     round(&rt, Kind::Journal, Some(5))
 }

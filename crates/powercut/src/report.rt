@@ -14,7 +14,12 @@ pub struct Tally {
 
 impl Tally {
     pub fn new() -> Tally {
-        Tally { cuts: 0, old: 0, new: 0, whole: 0 }
+        Tally {
+            cuts: 0,
+            old: 0,
+            new: 0,
+            whole: 0,
+        }
     }
 
     pub fn add(&mut self, seen: &Seen) {
@@ -48,8 +53,15 @@ pub fn line(rt: &LibcRuntime, cut: &Cut, seen: &Seen) -> io::Result<()> {
     } else {
         "TORN"
     };
-    let others = if seen.others == 61 { "others untouched" } else { "OTHERS CHANGED" };
-    println!(rt, "  write {write:>2}, block {block:>3}, left {left}: {pages}, {others}")
+    let others = if seen.others == 61 {
+        "others untouched"
+    } else {
+        "OTHERS CHANGED"
+    };
+    println!(
+        rt,
+        "  write {write:>2}, block {block:>3}, left {left}: {pages}, {others}"
+    )
 }
 
 pub fn closing(rt: &LibcRuntime, kind: Kind, tally: &Tally) -> io::Result<()> {
@@ -59,5 +71,8 @@ pub fn closing(rt: &LibcRuntime, kind: Kind, tally: &Tally) -> io::Result<()> {
     let new = tally.new;
     let torn = cuts.saturating_sub(old).saturating_sub(new);
     let whole = tally.whole;
-    println!(rt, "{store}: {cuts} cuts, {old} all old, {new} all new, {torn} torn, others untouched in {whole}")
+    println!(
+        rt,
+        "{store}: {cuts} cuts, {old} all old, {new} all new, {torn} torn, others untouched in {whole}"
+    )
 }

@@ -28,7 +28,14 @@ impl Seen {
 fn is_version(image: &[u8], version: u8, page: u32) -> bool {
     let mut same = image.len() == 256;
     for (i, byte) in image.iter().enumerate() {
-        let wanted = if version == 0 { 0 } else { stored(version, (page as usize).saturating_mul(256).saturating_add(i)) };
+        let wanted = if version == 0 {
+            0
+        } else {
+            stored(
+                version,
+                (page as usize).saturating_mul(256).saturating_add(i),
+            )
+        };
         same = same && *byte == wanted;
     }
     same
@@ -36,16 +43,24 @@ fn is_version(image: &[u8], version: u8, page: u32) -> bool {
 
 // Powers a store on and reads all 64 pages.
 pub fn survey<S: PageStore>(store: &mut S, set: u64, block: u64, old: u8, new: u8) -> Seen {
-    let mut seen = Seen { block, old: 0, new: 0, others: 0 };
+    let mut seen = Seen {
+        block,
+        old: 0,
+        new: 0,
+        others: 0,
+    };
     store.power_on();
     for page in 0..64u32 {
         let mut image = [0u8; 256];
         let read = store.read(page, &mut image).is_ok();
         if !contains(set, page) {
-            seen.others = seen.others.saturating_add((read && is_version(&image, 0, page)) as u32);
+            seen.others = seen.others
+                .saturating_add((read && is_version(&image, 0, page)) as u32);
         } else {
-            seen.old = seen.old.saturating_add((read && is_version(&image, old, page)) as u32);
-            seen.new = seen.new.saturating_add((read && is_version(&image, new, page)) as u32);
+            seen.old = seen.old
+                .saturating_add((read && is_version(&image, old, page)) as u32);
+            seen.new = seen.new
+                .saturating_add((read && is_version(&image, new, page)) as u32);
         }
     }
     seen

@@ -27,7 +27,10 @@ fn as_many_blocks_as_fit() -> Result<(), Fail> {
 #[test]
 fn bytes_behind_the_last_block_stay() -> Result<(), Fail> {
     let mut chip = [9u8; 33297];
-    check_eq(MemoryMedium::new(&mut chip).write(129, &[5u8; BLOCK]), Ok(()))?;
+    check_eq(
+        MemoryMedium::new(&mut chip).write(129, &[5u8; BLOCK]),
+        Ok(()),
+    )?;
     let mut fives = 0u32;
     let mut nines = 0u32;
     for (i, byte) in chip.iter().enumerate() {
@@ -64,7 +67,9 @@ fn writing_checks_block_length_then_power() -> Result<(), Fail> {
     check_eq(medium.write(1, &[1u8; 257]), Err(Fault::WrongLength(257)))?;
     check_eq(medium.write(1, &[1u8; BLOCK]), Err(Fault::PowerLost(1)))?;
     check_eq(medium.write(0, &[1u8; BLOCK]), Err(Fault::PowerLost(0))).note("a dead chip")?;
-    check_eq(medium.write(1, &[1u8; 3]), Err(Fault::WrongLength(3))).note("a dead chip, and a wrong length")?;
+    check_eq(medium.write(1, &[1u8; 3]), Err(Fault::WrongLength(3))).note(
+        "a dead chip, and a wrong length",
+    )?;
     let mut block = [9u8; BLOCK];
     check_eq(medium.read(1, &mut block), Ok(()))?;
     check_eq(block[0], 0).note("left old")
@@ -108,9 +113,18 @@ fn a_partition_counts_its_own_blocks() -> Result<(), Fail> {
 #[test]
 fn a_partition_that_does_not_fit_has_no_block() -> Result<(), Fail> {
     let mut bytes = [0u8; 1024];
-    check_eq(Partition::new(MemoryMedium::new(&mut bytes), 2, 3).count(), 0)?;
-    check_eq(Partition::new(MemoryMedium::new(&mut bytes), usize::MAX, 2).count(), 0)?;
-    check_eq(Partition::new(MemoryMedium::new(&mut bytes), 4, 0).count(), 0)?;
+    check_eq(
+        Partition::new(MemoryMedium::new(&mut bytes), 2, 3).count(),
+        0,
+    )?;
+    check_eq(
+        Partition::new(MemoryMedium::new(&mut bytes), usize::MAX, 2).count(),
+        0,
+    )?;
+    check_eq(
+        Partition::new(MemoryMedium::new(&mut bytes), 4, 0).count(),
+        0,
+    )?;
     let part = Partition::new(MemoryMedium::new(&mut bytes), 2, 3);
     let mut block = [0u8; BLOCK];
     check_eq(part.read(0, &mut block), Err(Fault::NoSuchBlock(0)))

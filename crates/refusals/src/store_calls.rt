@@ -15,7 +15,9 @@ use stores::ShadowStorePageStore;
 
 // 129 blocks, and one block less.
 const ENOUGH: usize = 33024;
+
 const SHORT: usize = 32768;
+
 const IMAGES: usize = 16384;
 
 // Reads are checked for the page, then the length, then the store's length.
@@ -26,7 +28,10 @@ fn reads<S: PageStore>(short: &S, store: &S) -> Result<(), Fail> {
     let mut image = [7u8; 256];
     check_eq(short.read(63, &mut image), Err(Fault::TooShort))?;
     check_eq(image[0], 7).note("the buffer is left")?;
-    check_eq(store.read(4294967295, &mut image), Err(Fault::NoSuchPage(4294967295)))?;
+    check_eq(
+        store.read(4294967295, &mut image),
+        Err(Fault::NoSuchPage(4294967295)),
+    )?;
     check_eq(store.read(63, &mut image), Ok(()))?;
     check_eq(image[0], 0)
 }

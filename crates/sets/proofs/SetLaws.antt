@@ -168,9 +168,9 @@ pub count-mono : (f : ℕ → Bool) (m n : ℕ) → m ≤ n → count f m ≤ co
 unfolding count
 count-mono f m zero h = let z : m ≡ 0 = omega arith in omega (arith, ap (count f) z)
 count-mono f m (suc n) h = elim (cases-lt m (suc n)) [
-    inl l ↦ omega (arith, count-mono f m n (omega arith))
+  | inl l ↦ omega (arith, count-mono f m n (omega arith))
   | inr g ↦ let z : m ≡ suc n = omega arith in omega (arith, ap (count f) z)
-  ]
+]
 
 -- the page 0 apart
 count-shift : (f : ℕ → Bool) (n : ℕ) → count f (suc n) ≡ cond (f 0) 1 0 + count (λ p. f (suc p)) n
@@ -270,10 +270,11 @@ meet-none s t hs e (p, a, b) = both-ways (has (bitAnd s t) p) (ap (λ x. has x p
 pub some-page : (s : ℕ) → s < 2 ^ 64 → (s ≡ 0 → ⊥) → (lowest s < 64) × (has s (lowest s) ≡ true)
 some-page s small ne =
     elim (cases-lt (lowest s) 64) [
-      inl l ↦ (l, first-hit (has s) 0 64 l)
-    | inr over ↦ absurd (ne (none-only s small (λ p. elim (cases-lt p 64) [
-          inl below ↦ lowest-least s p (omega arith)
-        | inr above ↦ has-above 64 s p small above ])))
+      | inl l ↦ (l, first-hit (has s) 0 64 l)
+      | inr over ↦ absurd (ne (none-only s small (λ p. elim (cases-lt p 64) [
+        | inl below ↦ lowest-least s p (omega arith)
+        | inr above ↦ has-above 64 s p small above
+      ])))
     ]
 
 pub meet-some : (s t : ℕ) → s < 2 ^ 64 → (bitAnd s t ≡ 0 → ⊥) → Meet s t
@@ -318,8 +319,8 @@ unfolding rising
 rising-all f zero = tt
 rising-all f (suc n) =
     all-append (λ p. (p < suc n) × (f p ≡ true)) (rising f n) (cond (f n) (n ∷ []) [])
-      (all-weaker (λ p. (p < n) × (f p ≡ true)) (λ p. (p < suc n) × (f p ≡ true)) (λ p h. (omega arith, h .1)) (rising f n) (rising-all f n))
-      (here (f n) refl)
+    (all-weaker (λ p. (p < n) × (f p ≡ true)) (λ p. (p < suc n) × (f p ≡ true)) (λ p h. (omega arith, h .1)) (rising f n) (rising-all f n))
+    (here (f n) refl)
   where
     here : (t : Bool) → f n ≡ t → All (λ p. (p < suc n) × (f p ≡ true)) (cond t (n ∷ []) [])
     here true e = ((omega arith, e), tt)
@@ -346,7 +347,7 @@ pub next-found : (s p : ℕ) → s < 2 ^ 64 → p < 64 → trailingZeros 64 (s /
 next-found s p small l h =
     let t = trailing-first 64 (s / 2 ^ p) in
     let hit = first-hit (has (s / 2 ^ p)) 0 64 (omega arith) in
-    record
-    { none-between = λ q a b. above-gap s p q a (omega arith)
-    ; found = inr (omega arith, sym (has-shifted s p (trailingZeros 64 (s / 2 ^ p))) ∙ ap (has (s / 2 ^ p)) t ∙ hit)
+    record {
+      none-between = λ q a b. above-gap s p q a (omega arith);
+      found = inr (omega arith, sym (has-shifted s p (trailingZeros 64 (s / 2 ^ p))) ∙ ap (has (s / 2 ^ p)) t ∙ hit);
     }

@@ -40,24 +40,24 @@ take-nil (suc k) = refl
 
 take-min : (k : ℕ) (xs : List ℕ) → take (min k (length xs)) xs ≡ take k xs
 take-min k xs = elim (cases-lt (length xs) k) [
-    inl over ↦ let m : min k (length xs) ≡ length xs = omega arith in
+  | inl over ↦ let m : min k (length xs) ≡ length xs = omega arith in
       ap (λ j. take j xs) m ∙ take-all (length xs) xs (omega arith) ∙ sym (take-all k xs (omega arith))
   | inr le ↦ let m : min k (length xs) ≡ k = omega arith in ap (λ j. take j xs) m
-  ]
+]
 
 -- a word of k bytes at place `at`: it begins at `from`, and n bytes of it lie in the slice
 module _ (k at from n : ℕ) (bs : List ℕ) (start : from ≡ min at (length bs)) (few : n ≡ min k (length bs - at)) where
   -- the part that is read
   pub read-part : take (from + n - from) (drop from bs) ≡ part at k bs
   read-part = elim (cases-lt (length bs) at) [
-      inl past ↦
+    | inl past ↦
         let z : from + n - from ≡ 0 = omega arith in
         ap (λ j. take j (drop from bs)) z ∙ sym (ap (take k) (drop-all at bs (omega arith)) ∙ take-nil k)
     | inr within ↦
         let f : from ≡ at = omega arith in
         let m : from + n - from ≡ min k (length (drop at bs)) = simp length-drop (omega arith) in
         ap (λ j. take j (drop from bs)) m ∙ ap (λ j. take (min k (length (drop at bs))) (drop j bs)) f ∙ take-min k (drop at bs)
-    ]
+  ]
 
   read-length : length (part at k bs) ≡ n
   read-length = simp (length-take, length-drop) (omega arith)
@@ -73,7 +73,7 @@ module _ (k at from n : ℕ) (bs : List ℕ) (start : from ≡ min at (length bs
 
 -- the part that is written
 pub write-part : (w bs : List ℕ) (at from n : ℕ) → from ≡ min at (length bs) → n ≡ min (length w) (length bs - at)
-  → (new : List ℕ) → new ≡ take (n - 0) w → putMid from (from + n - from) bs new ≡ over at w bs
+    → (new : List ℕ) → new ≡ take (n - 0) w → putMid from (from + n - from) bs new ≡ over at w bs
 write-part w bs at from n start few new e =
     ap₂ _++_ front (ap₂ _++_ (e ∙ middle) back)
   where
@@ -85,9 +85,9 @@ write-part w bs at from n start few new e =
 
     back : drop (from + n - from) (drop from bs) ≡ drop (at + length w) bs
     back = drop-drop (from + n - from) from bs ∙ elim (cases-lt (length bs) (at + length w)) [
-        inl past ↦ drop-all (from + (from + n - from)) bs (omega arith) ∙ sym (drop-all (at + length w) bs (omega arith))
+      | inl past ↦ drop-all (from + (from + n - from)) bs (omega arith) ∙ sym (drop-all (at + length w) bs (omega arith))
       | inr within ↦ let m : from + (from + n - from) ≡ at + length w = omega arith in ap (λ j. drop j bs) m
-      ]
+    ]
 
 pub bytes-length : (n x : ℕ) → length (bytesOf n x) ≡ n
 bytes-length zero x = refl

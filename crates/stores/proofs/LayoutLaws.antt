@@ -95,7 +95,7 @@ pages-same xs ys h = fun-ext (λ p. elim (cases-lt p 64) [ inl l ↦ h p l | inr
 
 -- a write to the slot that page p does not use
 pub put-spare : (bs : List (List ℕ)) (u p : ℕ) (d : List ℕ) → p < 64 → has u p ≡ not (has (setIn bs) p)
-  → (pageIn (set bs (slot u p) d) ≡ pageIn bs) × (setIn (set bs (slot u p) d) ≡ setIn bs)
+    → (pageIn (set bs (slot u p) d) ≡ pageIn bs) × (setIn (set bs (slot u p) d) ≡ setIn bs)
 put-spare bs u p d h spare = (pages-same (set bs (slot u p) d) bs (λ q l. page-at (set bs (slot u p) d) q l ∙ ap (λ s. imageOf (blockIn (set bs (slot u p) d) (slot s q))) same ∙ ap imageOf (block-other bs (slot u p) (slot (setIn bs) q) d (apart q l)) ∙ sym (page-at bs q l)), same)
   where
     same : setIn (set bs (slot u p) d) ≡ setIn bs

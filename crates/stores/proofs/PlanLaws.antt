@@ -51,9 +51,9 @@ module _ (u s : ℕ) (f : ℕ → List ℕ) where
   pub upTo-rest : (n k : ℕ) → n ≤ k → (vs : List Write) × (upTo k ≡ upTo n ++ vs)
   upTo-rest n zero h = ([], (let z : n ≡ 0 = omega arith in ap upTo (sym z) ∙ sym (append-nil (upTo n))))
   upTo-rest n (suc k) h = elim (cases-lt n (suc k)) [
-      inl l ↦ let ih = upTo-rest n k (omega arith) in (ih .0 ++ ofPage u s f k, upTo-suc k ∙ ap (λ x. x ++ ofPage u s f k) (ih .1) ∙ append-assoc (upTo n) (ih .0) (ofPage u s f k))
+    | inl l ↦ let ih = upTo-rest n k (omega arith) in (ih .0 ++ ofPage u s f k, upTo-suc k ∙ ap (λ x. x ++ ofPage u s f k) (ih .1) ∙ append-assoc (upTo n) (ih .0) (ofPage u s f k))
     | inr g ↦ let z : n ≡ suc k = omega arith in ([], ap upTo (sym z) ∙ sym (append-nil (upTo n)))
-    ]
+  ]
 
   upTo-fits : (k n : ℕ) → 128 ≤ k → n ≤ 64 → ((p : ℕ) → p < 64 → has s p ≡ true → length (f p) ≡ 256) → Fitting k (upTo n)
   unfolding Fitting
@@ -87,7 +87,7 @@ module _ (u s : ℕ) (f : ℕ → List ℕ) where
 
   -- they write slots that no page uses
   upTo-spare : (bs : List (List ℕ)) (n : ℕ) → n ≤ 64 → ((p : ℕ) → p < 64 → has s p ≡ true → has u p ≡ not (has (setIn bs) p))
-    → Throughout (λ x. (pageIn x ≡ pageIn bs) × (setIn x ≡ setIn bs)) bs (upTo n)
+      → Throughout (λ x. (pageIn x ≡ pageIn bs) × (setIn x ≡ setIn bs)) bs (upTo n)
   unfolding Throughout puts
   upTo-spare bs zero h spare = subst (λ ws. Throughout (λ x. (pageIn x ≡ pageIn bs) × (setIn x ≡ setIn bs)) bs ws) (sym upTo-none) (refl, refl)
   upTo-spare bs (suc n) h spare =
@@ -98,7 +98,7 @@ module _ (u s : ℕ) (f : ℕ → List ℕ) where
       (throughout-append P bs (upTo n) (ofPage u s f n) t (here (puts bs (upTo n)) l (has s n) refl))
     where
       here : (x : List (List ℕ)) → (pageIn x ≡ pageIn bs) × (setIn x ≡ setIn bs) → (t : Bool) → has s n ≡ t
-        → Throughout (λ x. (pageIn x ≡ pageIn bs) × (setIn x ≡ setIn bs)) x (cond t (imageWrite u f n ∷ []) [])
+          → Throughout (λ x. (pageIn x ≡ pageIn bs) × (setIn x ≡ setIn bs)) x (cond t (imageWrite u f n ∷ []) [])
       here x l true e =
           let w = put-spare x u n (f n) (omega arith) (spare n (omega arith) e ∙ ap (λ c. not (has c n)) (sym (l .1))) in
           (l, (w .0 ∙ l .0, w .1 ∙ l .1))
@@ -122,9 +122,9 @@ module _ (u s : ℕ) (f : ℕ → List ℕ) where
   upTo-hit bs (suc n) q room h l e =
       ap (λ ws. blockIn (puts bs ws) (slot u q)) (upTo-suc n) ∙ ap (λ x. blockIn x (slot u q)) (puts-append bs (upTo n) (ofPage u s f n))
       ∙ elim (cases-eq q n) [
-          inl same ↦ last same
+        | inl same ↦ last same
         | inr other ↦ here (puts bs (upTo n)) (has s n) refl (λ z. other (slot-same u u q n (omega arith) (omega arith) z .0)) ∙ upTo-hit bs n q room (omega arith) (omega arith) e
-        ]
+      ]
     where
       here : (x : List (List ℕ)) (t : Bool) → has s n ≡ t → (slot u q ≡ slot u n → ⊥) → blockIn (puts x (cond t (imageWrite u f n ∷ []) [])) (slot u q) ≡ blockIn x (slot u q)
       here x true e′ ne = block-other x (slot u n) (slot u q) (f n) ne
@@ -153,12 +153,12 @@ module _ (c : ℕ) (f : ℕ → List ℕ) (bs : List (List ℕ)) (room : 129 ≤
   homes-cleared =
       let x = puts bs (imageWrites 0 c f) in
       pages-same (set x 128 (setBlock 0)) bs (λ q l.
-        page-at (set x 128 (setBlock 0)) q l
-        ∙ ap (λ s. imageOf (blockIn (set x 128 (setBlock 0)) (slot s q))) (put-set x 0 (omega (arith, length-puts bs (imageWrites 0 c f))) (omega arith))
-        ∙ ap (λ b. imageOf (blockIn (set x 128 (setBlock 0)) b)) (slot-lower 0 q (has-none q))
-        ∙ ap imageOf (block-other x 128 q (setBlock 0) (omega arith))
-        ∙ here q l (has c q) refl
-        ∙ sym (page-at bs q l))
+      page-at (set x 128 (setBlock 0)) q l
+      ∙ ap (λ s. imageOf (blockIn (set x 128 (setBlock 0)) (slot s q))) (put-set x 0 (omega (arith, length-puts bs (imageWrites 0 c f))) (omega arith))
+      ∙ ap (λ b. imageOf (blockIn (set x 128 (setBlock 0)) b)) (slot-lower 0 q (has-none q))
+      ∙ ap imageOf (block-other x 128 q (setBlock 0) (omega arith))
+      ∙ here q l (has c q) refl
+      ∙ sym (page-at bs q l))
     where
       here : (q : ℕ) → q < 64 → (t : Bool) → has c q ≡ t → imageOf (blockIn (puts bs (imageWrites 0 c f)) q) ≡ imageOf (blockIn bs (slot (setIn bs) q))
       here q l true e =
@@ -205,6 +205,7 @@ module _ (set′ : ℕ) (images : List ℕ) (x : List (List ℕ)) (t : ℕ) (roo
           pick false e =
               ap (λ b. imageOf (blockIn x b)) (slot-like t (setIn x) q (kept q l e)) ∙ sym (page-at x q l)
               ∙ sym (cond-false (has set′ q) (pictured images q) (pageIn x q) e)
+
       high : (q : ℕ) → 64 ≤ q → pageIn (set x 128 (setBlock t)) q ≡ installed set′ images (pageIn x) q
       high q over = page-none (set x 128 (setBlock t)) q over ∙ sym (cond-false (has set′ q) (pictured images q) (pageIn x q) (has-above 64 set′ q within over) ∙ page-none x q over)
 
@@ -218,24 +219,24 @@ pub record Installs (bs : List (List ℕ)) (ws : List Write) (new : ℕ → List
 
 -- quiet writes, then the one that turns, then quiet writes
 installs : (bs : List (List ℕ)) (before after : List Write) (w : Write) (new : ℕ → List ℕ)
-  → Fitting (length bs) before → Fitting (length bs) (w ∷ after)
-  → Throughout (λ x. pageIn x ≡ pageIn bs) bs before
-  → (y : List (List ℕ)) → y ≡ puts bs before → pageIn (put y w) ≡ new
-  → Throughout (λ x. pageIn x ≡ pageIn (put y w)) (put y w) after
-  → Installs bs (before ++ w ∷ after) new
+    → Fitting (length bs) before → Fitting (length bs) (w ∷ after)
+    → Throughout (λ x. pageIn x ≡ pageIn bs) bs before
+    → (y : List (List ℕ)) → y ≡ puts bs before → pageIn (put y w) ≡ new
+    → Throughout (λ x. pageIn x ≡ pageIn (put y w)) (put y w) after
+    → Installs bs (before ++ w ∷ after) new
 unfolding Fitting puts
 installs bs before after w new f g t y ey en u =
     let z = puts bs (before ++ w ∷ []) in
     let ez : put y w ≡ z = ap (λ x. put x w) ey ∙ sym (puts-append bs before (w ∷ [])) in
     let quiet : Throughout (λ x. pageIn x ≡ pageIn z) z after = subst (λ v. Throughout (λ x. pageIn x ≡ pageIn v) v after) ez u in
     let turn : pageIn z ≡ new = ap pageIn (sym ez) ∙ en in
-    record
-    { fits = fitting-append (length bs) before (w ∷ after) f g
-    ; always = throughout-weaker (λ x. (pageIn x ≡ pageIn bs) ⊎ (pageIn x ≡ pageIn z)) (λ x. (pageIn x ≡ pageIn bs) ⊎ (pageIn x ≡ new))
-        (λ x e. elim e [ inl old ↦ inl old | inr n ↦ inr (n ∙ turn) ]) bs (before ++ w ∷ after) (atomic pageIn bs before w after t quiet)
-    ; ends =
-        ap pageIn (puts-append bs before (w ∷ after)) ∙ ap (λ x. pageIn (puts (put x w) after)) (sym ey)
-        ∙ throughout-last (λ x. pageIn x ≡ pageIn (put y w)) (put y w) after u ∙ en
+    record {
+      fits = fitting-append (length bs) before (w ∷ after) f g;
+      always = throughout-weaker (λ x. (pageIn x ≡ pageIn bs) ⊎ (pageIn x ≡ pageIn z)) (λ x. (pageIn x ≡ pageIn bs) ⊎ (pageIn x ≡ new))
+          (λ x e. elim e [ inl old ↦ inl old | inr n ↦ inr (n ∙ turn) ]) bs (before ++ w ∷ after) (atomic pageIn bs before w after t quiet);
+      ends =
+          ap pageIn (puts-append bs before (w ∷ after)) ∙ ap (λ x. pageIn (puts (put x w) after)) (sym ey)
+          ∙ throughout-last (λ x. pageIn x ≡ pageIn (put y w)) (put y w) after u ∙ en;
     }
 
 module _ (bs : List (List ℕ)) (room : 129 ≤ length bs) (set′ : ℕ) (within : set′ < 2 ^ 64) (images : List ℕ) (long : length images ≡ 16384) where
@@ -269,21 +270,22 @@ module _ (bs : List (List ℕ)) (room : 129 ≤ length bs) (set′ : ℕ) (withi
         let last = throughout-last (λ x. (pageIn x ≡ pageIn bs) × (setIn x ≡ setIn bs)) bs (imageWrites other set′ f) t in
         let far = length-puts bs (imageWrites other set′ f) in
         installs bs (imageWrites other set′ f) [] (setWrite (bitXor (setIn bs) set′)) (installed set′ images (pageIn bs))
-          (upTo-fits other set′ f (length bs) 64 (omega arith) (omega arith) picture-fits)
-          (set-fits (length bs) (bitXor (setIn bs) set′) room)
-          (throughout-weaker (λ x. (pageIn x ≡ pageIn bs) × (setIn x ≡ setIn bs)) (λ x. pageIn x ≡ pageIn bs) (λ x h. h .0) bs (imageWrites other set′ f) t)
-          y refl
-          (turned set′ images y (bitXor (setIn bs) set′) (omega arith) (xor-lt 64 (setIn bs) set′ low within)
-            (λ q l e. ap (λ b. imageOf (blockIn y b)) (slot-like (bitXor (setIn bs) set′) other q (has-xor (setIn bs) set′ q ∙ ap (differs (has (setIn bs) q)) e ∙ flip (has (setIn bs) q) ∙ sym (has-other q l)))
-              ∙ ap imageOf (upTo-hit other set′ f bs 64 q (omega arith) (omega arith) l e) ∙ picture-again images q long l)
-            (λ q l e. has-xor (setIn bs) set′ q ∙ ap (differs (has (setIn bs) q)) e ∙ stay (has (setIn bs) q) ∙ ap (λ s. has s q) (sym (last .1)))
-            within
-          ∙ ap (installed set′ images) (last .0))
-          refl
+        (upTo-fits other set′ f (length bs) 64 (omega arith) (omega arith) picture-fits)
+        (set-fits (length bs) (bitXor (setIn bs) set′) room)
+        (throughout-weaker (λ x. (pageIn x ≡ pageIn bs) × (setIn x ≡ setIn bs)) (λ x. pageIn x ≡ pageIn bs) (λ x h. h .0) bs (imageWrites other set′ f) t)
+        y refl
+        (turned set′ images y (bitXor (setIn bs) set′) (omega arith) (xor-lt 64 (setIn bs) set′ low within)
+        (λ q l e. ap (λ b. imageOf (blockIn y b)) (slot-like (bitXor (setIn bs) set′) other q (has-xor (setIn bs) set′ q ∙ ap (differs (has (setIn bs) q)) e ∙ flip (has (setIn bs) q) ∙ sym (has-other q l)))
+        ∙ ap imageOf (upTo-hit other set′ f bs 64 q (omega arith) (omega arith) l e) ∙ picture-again images q long l)
+        (λ q l e. has-xor (setIn bs) set′ q ∙ ap (differs (has (setIn bs) q)) e ∙ stay (has (setIn bs) q) ∙ ap (λ s. has s q) (sym (last .1)))
+        within
+        ∙ ap (installed set′ images) (last .0))
+        refl
       where
         flip : (t : Bool) → differs t true ≡ not t
         flip true = refl
         flip false = refl
+
         stay : (t : Bool) → differs t false ≡ t
         stay true = refl
         stay false = refl
@@ -295,14 +297,15 @@ module _ (bs : List (List ℕ)) (room : 129 ≤ length bs) (set′ : ℕ) (withi
     settle-steady : Throughout (λ x. pageIn x ≡ pageIn bs) bs (settleWrites bs) × (setIn (puts bs (settleWrites bs)) ≡ 0) × Fitting (length bs) (settleWrites bs)
     unfolding Throughout Fitting puts homes
     settle-steady = elim (cases-eq (setIn bs) 0) [
-        inl none ↦ subst Settled (sym (ap (λ t. cond t [] (homes (setIn bs) staged)) (eq-eqb (setIn bs) 0 none))) (refl, none, tt)
-      | inr some ↦ subst Settled (sym (ap (λ t. cond t [] (homes (setIn bs) staged)) (ne-eqb (setIn bs) 0 some)))
-          ( homes-steady (setIn bs) staged bs room refl again
-          , homes-clear (setIn bs) staged bs room refl again
-          , fitting-append (length bs) (imageWrites 0 (setIn bs) staged) (setWrite 0 ∷ [])
-              (upTo-fits 0 (setIn bs) staged (length bs) 64 (omega arith) (omega arith) (λ p l e. image-length (blockIn bs (slot everyPage p)) (thick p l)))
-              (set-fits (length bs) 0 room) )
-      ]
+      | inl none ↦ subst Settled (sym (ap (λ t. cond t [] (homes (setIn bs) staged)) (eq-eqb (setIn bs) 0 none))) (refl, none, tt)
+      | inr some ↦ subst Settled (sym (ap (λ t. cond t [] (homes (setIn bs) staged)) (ne-eqb (setIn bs) 0 some))) (
+        homes-steady (setIn bs) staged bs room refl again,
+        homes-clear (setIn bs) staged bs room refl again,
+        fitting-append (length bs) (imageWrites 0 (setIn bs) staged) (setWrite 0 ∷ [])
+            (upTo-fits 0 (setIn bs) staged (length bs) 64 (omega arith) (omega arith) (λ p l e. image-length (blockIn bs (slot everyPage p)) (thick p l)))
+            (set-fits (length bs) 0 room),
+      )
+    ]
       where
         Settled : List Write → Type 0
         Settled ws = Throughout (λ x. pageIn x ≡ pageIn bs) bs ws × (setIn (puts bs ws) ≡ 0) × Fitting (length bs) ws
@@ -317,7 +320,7 @@ module _ (bs : List (List ℕ)) (room : 129 ≤ length bs) (set′ : ℕ) (withi
         again q l e = image-again (blockIn bs (slot everyPage q)) (thick q l)
 
     pub journal-installs : (set′ ≡ 0 → ⊥)
-      → Installs bs (settleWrites bs ++ (imageWrites everyPage set′ (pictured images) ++ (setWrite set′ ∷ (imageWrites 0 set′ (pictured images) ++ (setWrite 0 ∷ []))))) (installed set′ images (pageIn bs))
+        → Installs bs (settleWrites bs ++ (imageWrites everyPage set′ (pictured images) ++ (setWrite set′ ∷ (imageWrites 0 set′ (pictured images) ++ (setWrite 0 ∷ []))))) (installed set′ images (pageIn bs))
     unfolding homes Fitting Throughout
     journal-installs some =
         let f = pictured images in
@@ -332,21 +335,21 @@ module _ (bs : List (List ℕ)) (room : 129 ≤ length bs) (set′ : ℕ) (withi
         let last = throughout-last (λ v. (pageIn v ≡ pageIn x) × (setIn v ≡ setIn x)) x stage t in
         let hit = λ (q : ℕ) (l : q < 64) (e : has set′ q ≡ true). upTo-hit everyPage set′ f x 64 q (omega arith) (omega arith) l e in
         let turn = turned set′ images y set′ (omega arith) within
-              (λ q l e. ap (λ b. imageOf (blockIn y b)) (slot-like set′ everyPage q (e ∙ sym (every q l))) ∙ ap imageOf (hit q l e) ∙ picture-again images q long l)
-              (λ q l e. e ∙ sym (ap (λ s. has s q) (last .1 ∙ sx) ∙ has-none q))
-              within in
+        (λ q l e. ap (λ b. imageOf (blockIn y b)) (slot-like set′ everyPage q (e ∙ sym (every q l))) ∙ ap imageOf (hit q l e) ∙ picture-again images q long l)
+        (λ q l e. e ∙ sym (ap (λ s. has s q) (last .1 ∙ sx) ∙ has-none q))
+        within in
         let z = set y 128 (setBlock set′) in
         subst (λ ws. Installs bs ws (installed set′ images (pageIn bs))) (append-assoc (settleWrites bs) stage (setWrite set′ ∷ homes set′ f))
         (installs bs (settleWrites bs ++ stage) (homes set′ f) (setWrite set′) (installed set′ images (pageIn bs))
-          (fitting-append (length bs) (settleWrites bs) stage (settle-steady .2) (upTo-fits everyPage set′ f (length bs) 64 (omega arith) (omega arith) picture-fits))
-          (fitting-append (length bs) (setWrite set′ ∷ []) (homes set′ f) (set-fits (length bs) set′ room)
-            (fitting-append (length bs) (imageWrites 0 set′ f) (setWrite 0 ∷ []) (upTo-fits 0 set′ f (length bs) 64 (omega arith) (omega arith) picture-fits) (set-fits (length bs) 0 room)))
-          (throughout-append (λ v. pageIn v ≡ pageIn bs) bs (settleWrites bs) stage (settle-steady .0)
-            (throughout-weaker (λ v. (pageIn v ≡ pageIn x) × (setIn v ≡ setIn x)) (λ v. pageIn v ≡ pageIn bs) (λ v h. h .0 ∙ px) x stage t))
-          y (sym (puts-append bs (settleWrites bs) stage))
-          (turn ∙ ap (installed set′ images) (last .0 ∙ px))
-          (homes-steady set′ f z (omega (arith, length-set y 128 (setBlock set′))) (put-set y set′ (omega arith) within)
-            (λ q l e. sym (ap imageOf (block-other y 128 (slot everyPage q) (setBlock set′) (omega (arith, slot-below everyPage q l)) ∙ hit q l e)))))
+        (fitting-append (length bs) (settleWrites bs) stage (settle-steady .2) (upTo-fits everyPage set′ f (length bs) 64 (omega arith) (omega arith) picture-fits))
+        (fitting-append (length bs) (setWrite set′ ∷ []) (homes set′ f) (set-fits (length bs) set′ room)
+        (fitting-append (length bs) (imageWrites 0 set′ f) (setWrite 0 ∷ []) (upTo-fits 0 set′ f (length bs) 64 (omega arith) (omega arith) picture-fits) (set-fits (length bs) 0 room)))
+        (throughout-append (λ v. pageIn v ≡ pageIn bs) bs (settleWrites bs) stage (settle-steady .0)
+        (throughout-weaker (λ v. (pageIn v ≡ pageIn x) × (setIn v ≡ setIn x)) (λ v. pageIn v ≡ pageIn bs) (λ v h. h .0 ∙ px) x stage t))
+        y (sym (puts-append bs (settleWrites bs) stage))
+        (turn ∙ ap (installed set′ images) (last .0 ∙ px))
+        (homes-steady set′ f z (omega (arith, length-set y 128 (setBlock set′))) (put-set y set′ (omega arith) within)
+        (λ q l e. sym (ap imageOf (block-other y 128 (slot everyPage q) (setBlock set′) (omega (arith, slot-below everyPage q l)) ∙ hit q l e)))))
 
 -- ---- staged images stay while pages are copied home
 
@@ -357,8 +360,8 @@ module _ (c : ℕ) (m m₁ : Device) (f : ℕ → List ℕ) (n : ℕ) (low : n <
   staged-stays : blockAt m₁ (slot everyPage n) ≡ blockAt m (slot everyPage n)
   staged-stays = ran-keeps (slot everyPage n) r
       (all-map (λ (w : Write). w .block ≡ slot everyPage n → ⊥) (imageWrite 0 f) (rising (has c) n)
-        (all-weaker (λ p. (p < n) × (has c p ≡ true)) (λ p. slot 0 p ≡ slot everyPage n → ⊥)
-          (λ p h e. omega (arith, h .0, e, slot-lower 0 p (has-none p), slot-upper everyPage n (every n low))) (rising (has c) n) (rising-all (has c) n)))
+      (all-weaker (λ p. (p < n) × (has c p ≡ true)) (λ p. slot 0 p ≡ slot everyPage n → ⊥)
+      (λ p h e. omega (arith, h .0, e, slot-lower 0 p (has-none p), slot-upper everyPage n (every n low))) (rising (has c) n) (rising-all (has c) n)))
 
   -- so the next page is copied as it was at the start
   pub next-home : ofPage 0 c (home m₁) n ≡ ofPage 0 c (home m) n
@@ -387,7 +390,7 @@ unfolding journal-parts
 journal-none bs set images e = cond-true (eqb set 0) [] (journal-parts bs set images) (eq-eqb set 0 e)
 
 pub journal-some : (bs : List (List ℕ)) (set : ℕ) (images : List ℕ) → (set ≡ 0 → ⊥)
-  → journalWrites bs set images ≡ settleWrites bs ++ (imageWrites everyPage set (pictured images) ++ (setWrite set ∷ (imageWrites 0 set (pictured images) ++ (setWrite 0 ∷ []))))
+    → journalWrites bs set images ≡ settleWrites bs ++ (imageWrites everyPage set (pictured images) ++ (setWrite set ∷ (imageWrites 0 set (pictured images) ++ (setWrite 0 ∷ []))))
 unfolding journal-parts
 journal-some bs set images ne = cond-false (eqb set 0) [] (journal-parts bs set images) (ne-eqb set 0 ne)
 
@@ -399,7 +402,7 @@ unfolding shadow-parts
 shadow-none bs set images e = cond-true (eqb set 0) [] (shadow-parts bs set images) (eq-eqb set 0 e)
 
 pub shadow-some : (bs : List (List ℕ)) (set : ℕ) (images : List ℕ) → (set ≡ 0 → ⊥)
-  → shadowWrites bs set images ≡ imageWrites (bitXor (setIn bs) everyPage) set (pictured images) ++ (setWrite (bitXor (setIn bs) set) ∷ [])
+    → shadowWrites bs set images ≡ imageWrites (bitXor (setIn bs) everyPage) set (pictured images) ++ (setWrite (bitXor (setIn bs) set) ∷ [])
 unfolding shadow-parts
 shadow-some bs set images ne = cond-false (eqb set 0) [] (shadow-parts bs set images) (ne-eqb set 0 ne)
 
@@ -421,10 +424,10 @@ journal-plan bs set images = pick (eqb set 0)
         let g = pictured [] in
         blocks-append (settleWrites bs) (imageWrites everyPage set f ++ (setWrite set ∷ (imageWrites 0 set f ++ (setWrite 0 ∷ []))))
         ∙ ap (λ x. blocksIn (settleWrites bs) ++ x)
-          ( blocks-append (imageWrites everyPage set f) (setWrite set ∷ (imageWrites 0 set f ++ (setWrite 0 ∷ [])))
-          ∙ ap₂ (λ x y. x ++ (128 ∷ y)) (image-blocks everyPage set f g (pages set))
-            (blocks-append (imageWrites 0 set f) (setWrite 0 ∷ []) ∙ ap (λ x. x ++ (128 ∷ [])) (image-blocks 0 set f g (pages set)) ∙ sym (blocks-append (imageWrites 0 set g) (setWrite 0 ∷ [])))
-          ∙ sym (blocks-append (imageWrites everyPage set g) (setWrite set ∷ (imageWrites 0 set g ++ (setWrite 0 ∷ [])))) )
+        (blocks-append (imageWrites everyPage set f) (setWrite set ∷ (imageWrites 0 set f ++ (setWrite 0 ∷ [])))
+        ∙ ap₂ (λ x y. x ++ (128 ∷ y)) (image-blocks everyPage set f g (pages set))
+        (blocks-append (imageWrites 0 set f) (setWrite 0 ∷ []) ∙ ap (λ x. x ++ (128 ∷ [])) (image-blocks 0 set f g (pages set)) ∙ sym (blocks-append (imageWrites 0 set g) (setWrite 0 ∷ [])))
+        ∙ sym (blocks-append (imageWrites everyPage set g) (setWrite set ∷ (imageWrites 0 set g ++ (setWrite 0 ∷ [])))))
         ∙ sym (blocks-append (settleWrites bs) (imageWrites everyPage set g ++ (setWrite set ∷ (imageWrites 0 set g ++ (setWrite 0 ∷ [])))))
 
     pick : (t : Bool) → blocksIn (cond t [] (journal-parts bs set images)) ≡ blocksIn (cond t [] (journal-parts bs set []))

@@ -45,21 +45,21 @@ at-state m l h e = store-long m h ∙ ap (λ t. withState (pageIn (m .blocks)) (
 module _ (set′ : ℕ) (images : List ℕ) (long : length images ≡ 16384) (some : set′ ≡ 0 → ⊥) (plan : List ℕ) (g : ℕ → List ℕ) where
   -- a live store begins it, and it ends in one of three ways
   begun : (e : Ending) (o : Option Report) (s′ : Store) → Possible e plan → o ≡ endFault e plan → s′ ≡ endStore e set′ images (withState g Live)
-    → InstalledBy e (withState g Live) plan set′ images o s′
-  begun e o s′ p a f = record
-    { possible = p
-    ; answer = a ∙ sym (rw (eq-eqb (length images) 16384 long, ne-eqb set′ 0 some) refl)
-    ; after = f ∙ sym (rw (eq-eqb (length images) 16384 long, ne-eqb set′ 0 some) refl)
-    }
+      → InstalledBy e (withState g Live) plan set′ images o s′
+  begun e o s′ p a f = record {
+    possible = p;
+    answer = a ∙ sym (rw (eq-eqb (length images) 16384 long, ne-eqb set′ 0 some) refl);
+    after = f ∙ sym (rw (eq-eqb (length images) 16384 long, ne-eqb set′ 0 some) refl);
+  }
 
   -- a dead one refuses it at the first block, and stays as it is
   dead-refuses : (o : Option Report) (s′ : Store) → 0 < length plan → o ≡ Some (report (PowerLost (getD plan 0 0))) → s′ ≡ withState g Dead
-    → InstalledBy (FailsOld 0) (withState g Dead) plan set′ images o s′
-  dead-refuses o s′ p a f = record
-    { possible = p
-    ; answer = a ∙ sym (rw (eq-eqb (length images) 16384 long, ne-eqb set′ 0 some) refl)
-    ; after = f ∙ sym (rw (eq-eqb (length images) 16384 long, ne-eqb set′ 0 some) refl)
-    }
+      → InstalledBy (FailsOld 0) (withState g Dead) plan set′ images o s′
+  dead-refuses o s′ p a f = record {
+    possible = p;
+    answer = a ∙ sym (rw (eq-eqb (length images) 16384 long, ne-eqb set′ 0 some) refl);
+    after = f ∙ sym (rw (eq-eqb (length images) 16384 long, ne-eqb set′ 0 some) refl);
+  }
 
 -- the run of a plan that installs a set
 module _ (m m′ : Device) (room : 129 ≤ blockCount m) (set′ : ℕ) (images : List ℕ) (long : length images ≡ 16384) (some : set′ ≡ 0 → ⊥)
@@ -81,10 +81,12 @@ module _ (m m′ : Device) (room : 129 ≤ blockCount m) (set′ : ℕ) (images 
   unfolding new
   passes r =
       let l = ran-lives (blockCount m) r refl refl (plan .fits) written in
-      let p = ran-passed (blockCount m) r refl refl (plan .fits) in
-      (Passes, subst (λ s. InstalledBy Passes s blocks set′ images None (storeOn m′)) (sym (at-state m true room l))
-        (begun set′ images long some blocks (pageIn (m .blocks)) Passes None (storeOn m′) tt refl
-          (at-state m′ true (room′ r) (p .1 ∙ l) ∙ ap (λ g. withState g Live) (ap pageIn (p .0) ∙ plan .ends))))
+      let p = ran-passed (blockCount m) r refl refl (plan .fits) in (
+        Passes,
+        subst (λ s. InstalledBy Passes s blocks set′ images None (storeOn m′)) (sym (at-state m true room l))
+            (begun set′ images long some blocks (pageIn (m .blocks)) Passes None (storeOn m′) tt refl
+            (at-state m′ true (room′ r) (p .1 ∙ l) ∙ ap (λ g. withState g Live) (ap pageIn (p .0) ∙ plan .ends))),
+      )
 
   fails : (q : Report) → Ran m ws (Some q) m′ → Installed (storeOn m) blocks set′ images (Some q) (storeOn m′)
   unfolding blocks new
@@ -103,21 +105,27 @@ module _ (m m′ : Device) (room : 129 ≤ blockCount m) (set′ : ℕ) (images 
       sees = throughout-ran (λ x. (pageIn x ≡ pageIn (m .blocks)) ⊎ (pageIn x ≡ new)) (blockCount m) r refl (plan .fits) (plan .always)
 
       ended : m .live ≡ true → (pageIn (m′ .blocks) ≡ pageIn (m .blocks)) ⊎ (pageIn (m′ .blocks) ≡ new) → Installed (storeOn m) blocks set′ images (Some q) (storeOn m′)
-      ended l (inl old) =
-          (FailsOld (cut .0), subst (λ s. InstalledBy (FailsOld (cut .0)) s blocks set′ images (Some q) (storeOn m′)) (sym (at-state m true room l))
-            (begun set′ images long some blocks (pageIn (m .blocks)) (FailsOld (cut .0)) (Some q) (storeOn m′) within (ap Some (cut .2)) (dead′ ∙ ap (λ g. withState g Dead) old)))
-      ended l (inr turn) =
-          (FailsNew (cut .0), subst (λ s. InstalledBy (FailsNew (cut .0)) s blocks set′ images (Some q) (storeOn m′)) (sym (at-state m true room l))
-            (begun set′ images long some blocks (pageIn (m .blocks)) (FailsNew (cut .0)) (Some q) (storeOn m′) within (ap Some (cut .2)) (dead′ ∙ ap (λ g. withState g Dead) turn)))
+      ended l (inl old) = (
+        FailsOld (cut .0),
+        subst (λ s. InstalledBy (FailsOld (cut .0)) s blocks set′ images (Some q) (storeOn m′)) (sym (at-state m true room l))
+            (begun set′ images long some blocks (pageIn (m .blocks)) (FailsOld (cut .0)) (Some q) (storeOn m′) within (ap Some (cut .2)) (dead′ ∙ ap (λ g. withState g Dead) old)),
+      )
+      ended l (inr turn) = (
+        FailsNew (cut .0),
+        subst (λ s. InstalledBy (FailsNew (cut .0)) s blocks set′ images (Some q) (storeOn m′)) (sym (at-state m true room l))
+            (begun set′ images long some blocks (pageIn (m .blocks)) (FailsNew (cut .0)) (Some q) (storeOn m′) within (ap Some (cut .2)) (dead′ ∙ ap (λ g. withState g Dead) turn)),
+      )
 
       go : (l : Bool) → m .live ≡ l → Installed (storeOn m) blocks set′ images (Some q) (storeOn m′)
       go true l = ended l sees
       go false l =
-          let still = cut .4 l in
-          (FailsOld 0, subst (λ s. InstalledBy (FailsOld 0) s blocks set′ images (Some q) (storeOn m′)) (sym (at-state m false room l))
-            (dead-refuses set′ images long some blocks (pageIn (m .blocks)) (Some q) (storeOn m′) (omega (arith, written, listed))
-              (ap Some (cut .2 ∙ ap (λ i. report (PowerLost (getD (map (λ w. w .block) ws) i 0))) (still .0)))
-              (dead′ ∙ ap (λ x. withState (pageIn x) Dead) (still .1))))
+          let still = cut .4 l in (
+            FailsOld 0,
+            subst (λ s. InstalledBy (FailsOld 0) s blocks set′ images (Some q) (storeOn m′)) (sym (at-state m false room l))
+                (dead-refuses set′ images long some blocks (pageIn (m .blocks)) (Some q) (storeOn m′) (omega (arith, written, listed))
+                (ap Some (cut .2 ∙ ap (λ i. report (PowerLost (getD (map (λ w. w .block) ws) i 0))) (still .0)))
+                (dead′ ∙ ap (λ x. withState (pageIn x) Dead) (still .1))),
+          )
 
   pub ran-installs : (o : Option Report) → Ran m ws o m′ → Installed (storeOn m) (map (λ w. w .block) ws) set′ images o (storeOn m′)
   unfolding blocks
@@ -130,7 +138,7 @@ pub check-passed : (m : Device) (images : List ℕ) → installCheck m images �
 check-passed m images e = go (eqb (length images) 16384) refl (leb 129 (blockCount m)) refl e
   where
     go : (s : Bool) → eqb (length images) 16384 ≡ s → (t : Bool) → leb 129 (blockCount m) ≡ t
-      → check (not s) (report (WrongLength (length images))) (check (not t) (report TooShort) None) ≡ None → (length images ≡ 16384) × (129 ≤ blockCount m)
+        → check (not s) (report (WrongLength (length images))) (check (not t) (report TooShort) None) ≡ None → (length images ≡ 16384) × (129 ≤ blockCount m)
     go true a true b h = (eqb-true (length images) 16384 a, leb-true 129 (blockCount m) b)
     go true a false b h = absurd (let z : _≡_ {A = ℕ} 0 1 = cc in omega arith)
     go false a t b h = absurd (let z : _≡_ {A = ℕ} 0 1 = cc in omega arith)
@@ -140,7 +148,7 @@ pub check-refused : (m : Device) (plan : List ℕ) (set′ : ℕ) (images : List
 check-refused m plan set′ images r e = (Passes, go (eqb (length images) 16384) refl (leb 129 (blockCount m)) refl e)
   where
     go : (s : Bool) → eqb (length images) 16384 ≡ s → (t : Bool) → leb 129 (blockCount m) ≡ t
-      → check (not s) (report (WrongLength (length images))) (check (not t) (report TooShort) None) ≡ Some r → InstalledBy Passes (storeOn m) plan set′ images (Some r) (storeOn m)
+        → check (not s) (report (WrongLength (length images))) (check (not t) (report TooShort) None) ≡ Some r → InstalledBy Passes (storeOn m) plan set′ images (Some r) (storeOn m)
     go true a true b h = absurd (let z : _≡_ {A = ℕ} 0 1 = cc in omega arith)
     go true a false b h = subst (λ s. InstalledBy Passes s plan set′ images (Some r) s) (sym (store-short m (leb-false 129 (blockCount m) b)))
         (record { possible = tt; answer = sym h ∙ sym (rw a refl); after = sym (rw a (none (not (eqb set′ 0)))) })
@@ -153,11 +161,15 @@ check-refused m plan set′ images r e = (Passes, go (eqb (length images) 16384)
 -- an empty set passes, and changes nothing
 pub empty-installs : (m : Device) (plan : List ℕ) (images : List ℕ) → installCheck m images ≡ None → (set′ : ℕ) → set′ ≡ 0 → Installed (storeOn m) plan set′ images None (storeOn m)
 empty-installs m plan images e set′ z =
-    let p = check-passed m images e in
-    (Passes, subst (λ s. InstalledBy Passes s plan set′ images None s) (sym (store-long m (p .1)))
-      (record { possible = tt
-              ; answer = sym (rw (eq-eqb (length images) 16384 (p .0), eq-eqb set′ 0 z) (live (m .live)))
-              ; after = sym (rw (eq-eqb (length images) 16384 (p .0), eq-eqb set′ 0 z) refl) }))
+    let p = check-passed m images e in (
+      Passes,
+      subst (λ s. InstalledBy Passes s plan set′ images None s) (sym (store-long m (p .1)))
+          (record {
+            possible = tt;
+            answer = sym (rw (eq-eqb (length images) 16384 (p .0), eq-eqb set′ 0 z) (live (m .live)));
+            after = sym (rw (eq-eqb (length images) 16384 (p .0), eq-eqb set′ 0 z) refl);
+          }),
+    )
   where
     live : (l : Bool) → check (isShort (cond l Live Dead)) (report TooShort) None ≡ None
     live true = refl
@@ -182,13 +194,13 @@ module _ (m m′ : Device) (set′ : ℕ) (within : set′ < 2 ^ 64) (images : L
   module _ (whole : Whole m) where
     pub journal-run : (o : Option Report) → Ran m (journalWrites (m .blocks) set′ images) o m′ → Installed (storeOn m) (journalPlan (m .blocks) set′) set′ images o (storeOn m′)
     journal-run o r = elim (cases-eq set′ 0) [
-        inl z ↦ idle (journalWrites (m .blocks) set′ images) (journalPlan (m .blocks) set′) o z (journal-none (m .blocks) set′ images z) r
+      | inl z ↦ idle (journalWrites (m .blocks) set′ images) (journalPlan (m .blocks) set′) o z (journal-none (m .blocks) set′ images z) r
       | inr some ↦
           let parts = journal-some (m .blocks) set′ images some in
           let plan = subst (λ ws. Installs (m .blocks) ws (installed set′ images (pageIn (m .blocks)))) (sym parts) (journal-installs (m .blocks) room set′ within images long whole some) in
           subst (λ bs. Installed (storeOn m) bs set′ images o (storeOn m′)) (journal-plan (m .blocks) set′ images)
           (ran-installs m m′ room set′ images long some (journalWrites (m .blocks) set′ images) (subst (λ ws. 0 < length ws) (sym parts) (longer (settleWrites (m .blocks)) (imageWrites everyPage set′ (pictured images)) (setWrite set′) (imageWrites 0 set′ (pictured images) ++ (setWrite 0 ∷ [])))) plan o r)
-      ]
+    ]
       where
         longer : (us vs : List Write) (w : Write) (ws : List Write) → 0 < length (us ++ (vs ++ (w ∷ ws)))
         longer us vs w ws = omega (arith, length-append us (vs ++ (w ∷ ws)), length-append vs (w ∷ ws))
@@ -196,13 +208,13 @@ module _ (m m′ : Device) (set′ : ℕ) (within : set′ < 2 ^ 64) (images : L
   module _ (low : setIn (m .blocks) < 2 ^ 64) where
     pub shadow-run : (o : Option Report) → Ran m (shadowWrites (m .blocks) set′ images) o m′ → Installed (storeOn m) (shadowPlan (m .blocks) set′) set′ images o (storeOn m′)
     shadow-run o r = elim (cases-eq set′ 0) [
-        inl z ↦ idle (shadowWrites (m .blocks) set′ images) (shadowPlan (m .blocks) set′) o z (shadow-none (m .blocks) set′ images z) r
+      | inl z ↦ idle (shadowWrites (m .blocks) set′ images) (shadowPlan (m .blocks) set′) o z (shadow-none (m .blocks) set′ images z) r
       | inr some ↦
           let parts = shadow-some (m .blocks) set′ images some in
           let plan = subst (λ ws. Installs (m .blocks) ws (installed set′ images (pageIn (m .blocks)))) (sym parts) (shadow-installs (m .blocks) room set′ within images long low some) in
           subst (λ bs. Installed (storeOn m) bs set′ images o (storeOn m′)) (shadow-plan (m .blocks) set′ images)
           (ran-installs m m′ room set′ images long some (shadowWrites (m .blocks) set′ images) (subst (λ ws. 0 < length ws) (sym parts) (longer (imageWrites (bitXor (setIn (m .blocks)) everyPage) set′ (pictured images)) (setWrite (bitXor (setIn (m .blocks)) set′)))) plan o r)
-      ]
+    ]
       where
         longer : (us : List Write) (w : Write) → 0 < length (us ++ (w ∷ []))
         longer us w = omega (arith, length-append us (w ∷ []))

@@ -11,8 +11,8 @@ ghost use Rattle.stores.specs.Images.{imageOf, pictured};
 ghost use Rattle.stores.specs.Layout.{slot, setIn, setBlock};
 ghost use Rattle.stores.specs.Stores.{readFault, readInto, storeOn, installCheck};
 ghost use Rattle.stores.specs.Plans.{imageWrites, setWrite, ofPage, everyPage, settleWrites};
-use media::BLOCK;
 use faults::Fault;
+use media::BLOCK;
 use media::Medium;
 use sets::contains;
 use sets::put_u64;
@@ -29,6 +29,7 @@ pub(crate) const IMAGES: usize = 16384;
 
 // The block that holds a set, the last that a store needs.
 const SET_BLOCK: usize = 128;
+
 pub(crate) const STORE_BLOCKS: usize = 129;
 
 // Every page, as a set.
@@ -95,7 +96,13 @@ fn picture(images: &[u8], page: u32) -> [u8; BLOCK]
 }
 
 // Writes the image of one page into its block, if the page is in the set.
-pub(crate) fn put_image<M: Medium>(medium: &mut M, upper: u64, set: u64, images: &[u8], page: u32) -> Result<(), Fault>
+pub(crate) fn put_image<M: Medium>(
+    medium: &mut M,
+    upper: u64,
+    set: u64,
+    images: &[u8],
+    page: u32,
+) -> Result<(), Fault>
     requires page { ⌜ page < 64 ⌝ }
     requires long { ⌜ length (now images) ≡ 16384 ⌝ }
     ensures ran { λ r. ⌜ Ran (M·Medium .model (now (medium .entry))) (ofPage upper set (pictured (now (images .entry))) page) (refusal r) (M·Medium .model (now (medium .exit))) ⌝ }
@@ -108,7 +115,12 @@ pub(crate) fn put_image<M: Medium>(medium: &mut M, upper: u64, set: u64, images:
 }
 
 // Writes the images of a set's pages, rising, each into its block.
-pub(crate) fn write_images<M: Medium>(medium: &mut M, upper: u64, set: u64, images: &[u8]) -> Result<(), Fault>
+pub(crate) fn write_images<M: Medium>(
+    medium: &mut M,
+    upper: u64,
+    set: u64,
+    images: &[u8],
+) -> Result<(), Fault>
     requires long { ⌜ length (now images) ≡ 16384 ⌝ }
     ensures ran { λ r. ⌜ Ran (M·Medium .model (now (medium .entry))) (imageWrites upper set (pictured (now (images .entry)))) (refusal r) (M·Medium .model (now (medium .exit))) ⌝ }
 {

@@ -40,9 +40,11 @@ returns-in-Break-bring-home g c =
     let n = c .loop-page .page in
     let x = report (c .in-Break-bring-home .field-0 .0) in
     let p = err-from-errBy (c .from-residual .result) (c .from-residual .ensures .1) in
-    record { ran = rw (p .1, p .2)
-      (run-cut 0 (c .args .mark) f n m m₁ m′ x (omega arith) (c .loop-page .inv)
-        (subst (λ ws. Ran m₁ ws (Some x) m′) (next-home (c .args .mark) m m₁ f n (omega arith) (c .loop-page .inv)) (c .in-Break-bring-home .ensures tt .ran))) }
+    record {
+      ran = rw (p .1, p .2)
+          (run-cut 0 (c .args .mark) f n m m₁ m′ x (omega arith) (c .loop-page .inv)
+          (subst (λ ws. Ran m₁ ws (Some x) m′) (next-home (c .args .mark) m m₁ f n (omega arith) (c .loop-page .inv)) (c .in-Break-bring-home .ensures tt .ran)));
+    }
 
 pub returns : need.returns
 returns g c =

@@ -19,6 +19,8 @@ returns g c =
     let m′ = g .M·Medium .model (c .write .last .self) in
     let p = c .args .page in
     let o = refusal (c .write .result) in
-    record { ran = page-in 0 (c .args .mark) (λ p. imageOf (blockAt m (slot everyPage p))) p m m′ o (sym (c .if-not-contains .ensures tt))
-      (ran-wrote (imageWrite 0 (λ p. imageOf (blockAt m (slot everyPage p))) p) m m′ (c .slot-of-2 .result) (c .load-image .last .buffer) o (c .write .ensures .wrote) (c .slot-of-2 .ensures)
-        (c .load-image .ensures .image ∙ ap (λ b. imageOf (blockAt m b)) (c .slot-of .ensures))) }
+    record {
+      ran = page-in 0 (c .args .mark) (λ p. imageOf (blockAt m (slot everyPage p))) p m m′ o (sym (c .if-not-contains .ensures tt))
+          (ran-wrote (imageWrite 0 (λ p. imageOf (blockAt m (slot everyPage p))) p) m m′ (c .slot-of-2 .result) (c .load-image .last .buffer) o (c .write .ensures .wrote) (c .slot-of-2 .ensures)
+          (c .load-image .ensures .image ∙ ap (λ b. imageOf (blockAt m b)) (c .slot-of .ensures)));
+    }

@@ -18,5 +18,7 @@ returns g c =
     let m = g .M·Medium .model (c .args .medium .now) in
     let m′ = g .M·Medium .model (c .write .last .self) in
     let f = pictured (c .args .images .now) in
-    record { ran = page-in (c .args .upper) (c .args .set) f (c .args .page) m m′ (refusal (c .write .result)) (sym (c .if-not-contains .ensures tt))
-      (ran-wrote (imageWrite (c .args .upper) f (c .args .page)) m m′ (c .slot-of .result) (c .picture-block .result) (refusal (c .write .result)) (c .write .ensures .wrote) (c .slot-of .ensures) (c .picture-block .ensures)) }
+    record {
+      ran = page-in (c .args .upper) (c .args .set) f (c .args .page) m m′ (refusal (c .write .result)) (sym (c .if-not-contains .ensures tt))
+          (ran-wrote (imageWrite (c .args .upper) f (c .args .page)) m m′ (c .slot-of .result) (c .picture-block .result) (refusal (c .write .result)) (c .write .ensures .wrote) (c .slot-of .ensures) (c .picture-block .ensures));
+    }

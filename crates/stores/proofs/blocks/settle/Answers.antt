@@ -21,13 +21,17 @@ returns-in-Break-bring-all-home g c =
     let m₁ = g .M·Medium .model (c .bring-all-home .last .medium) in
     let x = report (c .in-Break-bring-all-home .field-0 .0) in
     let p = err-from-errBy (c .from-residual .result) (c .from-residual .ensures .1) in
-    record { ran = rw (p .1, p .2)
-      (subst (λ ws. Ran m ws (Some x) m₁) (sym (settle-some (m .blocks) (c .load-set-mark .result) (c .load-set-mark .ensures) (c .if-mark-eq0 .left)))
-        (ran-cut (setWrite 0 ∷ []) x (c .in-Break-bring-all-home .ensures tt .ran) refl)) }
+    record {
+      ran = rw (p .1, p .2)
+          (subst (λ ws. Ran m ws (Some x) m₁) (sym (settle-some (m .blocks) (c .load-set-mark .result) (c .load-set-mark .ensures) (c .if-mark-eq0 .left)))
+          (ran-cut (setWrite 0 ∷ []) x (c .in-Break-bring-all-home .ensures tt .ran) refl));
+    }
 
 pub returns : need.returns
 returns g c =
     let m = g .M·Medium .model (c .args .medium .now) in
     let m′ = g .M·Medium .model (c .write-set .last .medium) in
-    record { ran = subst (λ ws. Ran m ws (refusal (c .write-set .result)) m′) (sym (settle-some (m .blocks) (c .load-set-mark .result) (c .load-set-mark .ensures) (c .if-mark-eq0 .left)))
-      (ran-append (c .in-Continue-bring-all-home .ensures tt .ran) refl (c .write-set .ensures .ran)) }
+    record {
+      ran = subst (λ ws. Ran m ws (refusal (c .write-set .result)) m′) (sym (settle-some (m .blocks) (c .load-set-mark .result) (c .load-set-mark .ensures) (c .if-mark-eq0 .left)))
+          (ran-append (c .in-Continue-bring-all-home .ensures tt .ran) refl (c .write-set .ensures .ran));
+    }

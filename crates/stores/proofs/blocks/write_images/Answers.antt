@@ -21,10 +21,12 @@ loop-page-again g c =
 pub returns-in-Break-put-image : need.returns-in-Break-put-image
 returns-in-Break-put-image g c =
     let p = err-from-errBy (c .from-residual .result) (c .from-residual .ensures .1) in
-    record { ran = rw (p .1, p .2)
-      (run-cut (c .args .upper) (c .args .set) (pictured (c .args .images .now)) (c .loop-page .page)
-      (g .M·Medium .model (c .args .medium .now)) (g .M·Medium .model (c .loop-page .medium)) (g .M·Medium .model (c .put-image .last .medium))
-      (report (c .in-Break-put-image .field-0 .0)) (omega arith) (c .loop-page .inv) (c .in-Break-put-image .ensures tt .ran)) }
+    record {
+      ran = rw (p .1, p .2)
+          (run-cut (c .args .upper) (c .args .set) (pictured (c .args .images .now)) (c .loop-page .page)
+          (g .M·Medium .model (c .args .medium .now)) (g .M·Medium .model (c .loop-page .medium)) (g .M·Medium .model (c .put-image .last .medium))
+          (report (c .in-Break-put-image .field-0 .0)) (omega arith) (c .loop-page .inv) (c .in-Break-put-image .ensures tt .ran));
+    }
 
 pub returns : need.returns
 returns g c =

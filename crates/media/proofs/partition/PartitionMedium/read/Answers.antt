@@ -14,7 +14,7 @@ returns g c =
     let s = c .args .self .now in
     let m = g .M·Medium .model (s .medium) in
     let there : c .args .block < blockCount (partOf (s .first) (s .blocks) m) = omega (arith, c .length .ensures .count) in
-    record
-    { answer = c .read .ensures .answer ∙ part-read-fault (s .first) (s .blocks) m (c .args .block) there (c .args .buffer .now)
-    ; buffer = c .read .ensures .buffer ∙ part-read-into (s .first) (s .blocks) m (c .args .block) there (c .args .buffer .now)
+    record {
+      answer = c .read .ensures .answer ∙ part-read-fault (s .first) (s .blocks) m (c .args .block) there (c .args .buffer .now);
+      buffer = c .read .ensures .buffer ∙ part-read-into (s .first) (s .blocks) m (c .args .block) there (c .args .buffer .now);
     }

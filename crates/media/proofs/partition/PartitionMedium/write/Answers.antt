@@ -18,11 +18,11 @@ returns-in-Ok g c =
     let m′ = g .M·Medium .model (c .write .last .self) in
     let there : c .args .block < blockCount (partOf (s .first) (s .blocks) m) = omega (arith, c .length .ensures .count) in
     let w = c .in-Ok .ensures tt .wrote in
-    record
-    { wrote = (w .0, part-wrote (s .first) (s .blocks) m (c .args .block) there (w .0) (c .args .data .now) None m′ (w .1))
-    ; outside = part-outside (s .first) (s .blocks) m (c .args .block) there (w .0) (c .args .data .now) None m′ (w .1)
-    ; first = refl
-    ; blocks = refl
+    record {
+      wrote = (w .0, part-wrote (s .first) (s .blocks) m (c .args .block) there (w .0) (c .args .data .now) None m′ (w .1));
+      outside = part-outside (s .first) (s .blocks) m (c .args .block) there (w .0) (c .args .data .now) None m′ (w .1);
+      first = refl;
+      blocks = refl;
     }
 
 pub returns-in-Err : need.returns-in-Err
@@ -34,9 +34,9 @@ returns-in-Err g c =
     let w = c .in-Err .ensures tt .wrote in
     let o = Some (report (c .in-Err .fault)) in
     let p = part-wrote (s .first) (s .blocks) m (c .args .block) there (w .0) (c .args .data .now) o m′ (w .1) in
-    record
-    { wrote = (w .0, record { answer = ap Some (c .retold .ensures) ∙ p .answer; after = p .after })
-    ; outside = part-outside (s .first) (s .blocks) m (c .args .block) there (w .0) (c .args .data .now) o m′ (w .1)
-    ; first = refl
-    ; blocks = refl
+    record {
+      wrote = (w .0, record { answer = ap Some (c .retold .ensures) ∙ p .answer; after = p .after });
+      outside = part-outside (s .first) (s .blocks) m (c .args .block) there (w .0) (c .args .data .now) o m′ (w .1);
+      first = refl;
+      blocks = refl;
     }

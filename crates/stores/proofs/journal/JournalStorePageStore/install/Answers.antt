@@ -12,7 +12,7 @@ returns g c =
     let images = c .args .images .now in
     let o = refusal (c .journal-install .result) in
     let ok = sym (c .in-Continue-install-allowed .ensures tt .answer) in
-    record
-    { installed = journal-run m m′ s (c .fits .set .fits) images ok (c .install-allowed .ensures .whole) o (c .journal-install .ensures .ran)
-    ; carried = carried m m′ (journalWrites (m .blocks) s images) images o ok (c .journal-install .ensures .ran)
+    record {
+      installed = journal-run m m′ s (c .fits .set .fits) images ok (c .install-allowed .ensures .whole) o (c .journal-install .ensures .ran);
+      carried = carried m m′ (journalWrites (m .blocks) s images) images o ok (c .journal-install .ensures .ran);
     }

@@ -12,7 +12,7 @@ returns g c =
     let images = c .args .images .now in
     let o = refusal (c .shadow-install .result) in
     let ok = sym (c .in-Continue-install-allowed .ensures tt .answer) in
-    record
-    { installed = shadow-run m m′ s (c .fits .set .fits) images ok (c .shadow-install .ensures .low) o (c .shadow-install .ensures .ran)
-    ; carried = carried m m′ (shadowWrites (m .blocks) s images) images o ok (c .shadow-install .ensures .ran)
+    record {
+      installed = shadow-run m m′ s (c .fits .set .fits) images ok (c .shadow-install .ensures .low) o (c .shadow-install .ensures .ran);
+      carried = carried m m′ (shadowWrites (m .blocks) s images) images o ok (c .shadow-install .ensures .ran);
     }
