@@ -15,3 +15,5 @@ pub use page::PageKind;
 pub use page::PageOperations;
 pub use pair::Pair;
 pub use pair::PairOperations;
+pub use sets_of::both;
+pub use sets_of::only;
