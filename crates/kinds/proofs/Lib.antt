@@ -1,0 +1,4 @@
+pub mod ActionLaws
+pub mod PageSetLaws
+pub mod PairLaws
+pub mod BufferLaws

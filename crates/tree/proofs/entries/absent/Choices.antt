@@ -1,0 +1,10 @@
+use Prim.Native.Nat.{_+_, _^_, _<_}
+use mathlib.Core.Bool.{false}
+use mathlib.Core.Path.{_≡_}
+use Rattle.sets.specs.Sets.{has}
+use Rattle.tree.specs.Nodes.{find, absent, before, above, rising, fresh, count, entries}
+use Rattle.tree.proofs.EntryLaws.{from}
+use Rattle.tree.proofs.entries.absent.Given as given
+
+abbrev pub Inv-loop-i : given.InvT-loop-i
+Inv-loop-i l = (l .i-end ≡ count (l .c)) × (absent (l .key) (from (l .c) (l .i-end) (l .i)) ≡ absent (l .key) (entries (l .c)))

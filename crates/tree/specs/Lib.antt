@@ -1,0 +1,4 @@
+pub mod Orders
+pub mod Nodes
+pub mod Steps
+pub mod Laws
