@@ -1,0 +1,2 @@
+pub mod WorkingLaws
+pub mod PerformLaws

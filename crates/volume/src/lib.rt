@@ -1,0 +1,4 @@
+// The volume.
+mod pages;
+mod perform;
+mod working;
