@@ -1,2 +1,3 @@
 pub mod WorkingLaws
 pub mod PerformLaws
+pub mod ReadingLaws

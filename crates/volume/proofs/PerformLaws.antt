@@ -31,7 +31,7 @@ module _ (k : Meaning) (law : Lawful k) (body : List ℕ) (reads writes : ℕ) (
 
   -- the same where the read pages' contents stand in front of a buffer
   pub reply-gathered : (images : ℕ → List ℕ) (used : ℕ) (buffer : List ℕ) (n : ℕ) → used ≡ 224 * size reads → length buffer ≡ 896
-    → take used buffer ≡ gathered reads images → n ≡ 224 * size writes → reply k body (take (used - 0) buffer) n ≡ outcome k body reads images
+      → take used buffer ≡ gathered reads images → n ≡ 224 * size writes → reply k body (take (used - 0) buffer) n ≡ outcome k body reads images
   reply-gathered images used buffer n u l f w =
       let few = reads-few in
       let z : used - 0 ≡ used = omega arith in
@@ -41,7 +41,7 @@ module _ (k : Meaning) (law : Lawful k) (body : List ℕ) (reads writes : ℕ) (
 
 -- the pages after a kind's answer
 pub done-ok : (x : Result (List ℕ) ℕ) (v before : List ℕ) (w n : ℕ) (images after : ℕ → List ℕ) → Ok tt ≡ answer x → v ≡ filled x before
-  → ((q : ℕ) → after q ≡ written w n v images q) → (q : ℕ) → after q ≡ performed x w n images q
+    → ((q : ℕ) → after q ≡ written w n v images q) → (q : ℕ) → after q ≡ performed x w n images q
 done-ok (Ok new) v before w n images after a f h q = h q ∙ ap (λ y. written w n y images q) f
 done-ok (Err c) v before w n images after a f h q = absurd (let z : _≡_ {A = ℕ} 0 1 = cc in omega arith)
 

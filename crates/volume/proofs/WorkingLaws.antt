@@ -130,15 +130,15 @@ module _ (set′ n : ℕ) (new : List ℕ) (images : ℕ → List ℕ) where
 
   -- one page more
   pub written-more : (k : ℕ) (cur next : ℕ → List ℕ) → ((q : ℕ) → cur q ≡ writtenTo k q)
-    → ((q : ℕ) → next q ≡ cond (has set′ k) (replaced k (stamped n (part (224 * count (has set′) k) 224 new) (cur k)) cur q) (cur q))
-    → (q : ℕ) → next q ≡ writtenTo (k + 1) q
+      → ((q : ℕ) → next q ≡ cond (has set′ k) (replaced k (stamped n (part (224 * count (has set′) k) 224 new) (cur k)) cur q) (cur q))
+      → (q : ℕ) → next q ≡ writtenTo (k + 1) q
   written-more k cur next h e q = e q ∙ elim (cases-eq q k) [ inl same ↦ here same | inr other ↦ there other ]
     where
       at-k : cur k ≡ images k
       at-k = h k ∙ cond-false (ltb k k) (written set′ n new images k) (images k) (le-ltb k k (omega arith))
 
       step : (t : Bool) → has set′ k ≡ t → (q : ℕ) → q ≡ k
-        → cond t (replaced k (stamped n (part (224 * count (has set′) k) 224 new) (cur k)) cur q) (cur q) ≡ written set′ n new images k
+          → cond t (replaced k (stamped n (part (224 * count (has set′) k) 224 new) (cur k)) cur q) (cur q) ≡ written set′ n new images k
       step true ht q same =
           cond-true (eqb q k) (stamped n (part (224 * count (has set′) k) 224 new) (cur k)) (cur q) (eq-eqb q k same)
           ∙ ap (stamped n (part (224 * count (has set′) k) 224 new)) at-k
@@ -164,10 +164,10 @@ module _ (set′ n : ℕ) (new : List ℕ) (images : ℕ → List ℕ) where
   -- all pages, for a set of the 64
   pub written-all : set′ < 2 ^ 64 → (cur : ℕ → List ℕ) → ((q : ℕ) → cur q ≡ writtenTo 64 q) → (q : ℕ) → cur q ≡ written set′ n new images q
   written-all small cur h q = h q ∙ elim (cases-lt q 64) [
-      inl l ↦ cond-true (ltb q 64) (written set′ n new images q) (images q) (lt-ltb q 64 l)
+    | inl l ↦ cond-true (ltb q 64) (written set′ n new images q) (images q) (lt-ltb q 64 l)
     | inr over ↦ cond-false (ltb q 64) (written set′ n new images q) (images q) (le-ltb q 64 over)
         ∙ sym (cond-false (has set′ q) (stamped n (shareOf set′ new q) (images q)) (images q) (has-above 64 set′ q small over))
-    ]
+  ]
 
 -- ---- an image with a new number and new contents
 

@@ -1,4 +1,5 @@
 // The volume.
+mod log_reading;
 mod pages;
 mod perform;
 mod working;

@@ -13,10 +13,18 @@ use sets::size;
 
 // The contents of four pages.
 const FOUR: usize = 896;
+
 const CONTENTS: usize = 224;
 
 // The same with a buffer for the new contents, which is as long as they are.
-fn perform_with<K: Kind>(pages: &mut WorkingPages, body: &[u8], reads: u64, writes: u64, number: u32, new: &mut [u8]) -> Result<(), u8>
+fn perform_with<K: Kind>(
+    pages: &mut WorkingPages,
+    body: &[u8],
+    reads: u64,
+    writes: u64,
+    number: u32,
+    new: &mut [u8],
+) -> Result<(), u8>
     requires scoped { ⌜ K·Kind .meaning .scope (now body) ≡ Ok (reads, writes) ⌝ }
     requires long { ⌜ length (now new) ≡ 224 * sizeOf writes ⌝ }
     ensures answer { λ r. ⌜ r ≡ answerOf (outcome (K·Kind .meaning) (now (body .entry)) reads (imageAt (now (pages .entry) .images))) ⌝ }
@@ -34,7 +42,13 @@ fn perform_with<K: Kind>(pages: &mut WorkingPages, body: &[u8], reads: u64, writ
 }
 
 // Does an operation whose sets are known; the pages that it writes take the number.
-pub(crate) fn perform<K: Kind>(pages: &mut WorkingPages, body: &[u8], reads: u64, writes: u64, number: u32) -> Result<(), u8>
+pub(crate) fn perform<K: Kind>(
+    pages: &mut WorkingPages,
+    body: &[u8],
+    reads: u64,
+    writes: u64,
+    number: u32,
+) -> Result<(), u8>
     requires scoped { ⌜ K·Kind .meaning .scope (now body) ≡ Ok (reads, writes) ⌝ }
     ensures answer { λ r. ⌜ r ≡ answerOf (outcome (K·Kind .meaning) (now (body .entry)) reads (imageAt (now (pages .entry) .images))) ⌝ }
     ensures images { λ _. ⌜ ((q : ℕ) → imageAt (now (pages .exit) .images) q ≡ performed (outcome (K·Kind .meaning) (now (body .entry)) reads (imageAt (now (pages .entry) .images))) writes number (imageAt (now (pages .entry) .images)) q) ⌝ }

@@ -17,26 +17,27 @@ pub lift-at-requires : need.lift-at-requires
 lift-at-requires c κs =
     let s = c .args .set in
     let p = c .loop-page .page in
-    record
-    { page = c .loop-page-test .taken
-    ; room = λ e. omega (arith, room-more s p 4 (c .loop-page-test .taken) (c .pre .few) e)
-    ; within = omega (arith, room-within s p 4 (omega arith) (c .pre .few))
+    record {
+      page = c .loop-page-test .taken;
+      room = λ e. omega (arith, room-more s p 4 (c .loop-page-test .taken) (c .pre .few) e);
+      within = omega (arith, room-within s p 4 (omega arith) (c .pre .few));
     }
 
 pub loop-page-again : need.loop-page-again
 loop-page-again c =
     let s = c .args .set in
     let p = c .loop-page .page in
-    let images = imageAt (c .args .self .now .images) in
-    ( c .lift-at .ensures .next ∙ ap (λ a. a + 224 * cond (has s p) 1 0) (c .loop-page .inv .0) ∙ place-more s p
-    , c .lift-at .ensures .front ∙ ap (λ x. x ++ cond (has s p) (contentsOf (images p)) []) (c .loop-page .inv .1) ∙ sym (gathered-more s images p) )
+    let images = imageAt (c .args .self .now .images) in (
+      c .lift-at .ensures .next ∙ ap (λ a. a + 224 * cond (has s p) 1 0) (c .loop-page .inv .0) ∙ place-more s p,
+      c .lift-at .ensures .front ∙ ap (λ x. x ++ cond (has s p) (contentsOf (images p)) []) (c .loop-page .inv .1) ∙ sym (gathered-more s images p),
+    )
 
 pub returns : need.returns
 returns c =
     let s = c .args .set in
     let images = imageAt (c .args .self .now .images) in
     let end : c .loop-page .page ≡ 64 = omega arith in
-    record
-    { used = c .loop-page .inv .0 ∙ ap (λ n. 224 * count (has s) n) end
-    ; front = c .loop-page .inv .1 ∙ ap (gatheredTo s images) end
+    record {
+      used = c .loop-page .inv .0 ∙ ap (λ n. 224 * count (has s) n) end;
+      front = c .loop-page .inv .1 ∙ ap (gatheredTo s images) end;
     }

@@ -18,10 +18,10 @@ returns c =
     let n = c .args .number in
     let t = c .if-not-contains .ensures tt in
     let k : at + 224 - at ≡ 224 = omega arith in
-    record
-    { next = ap (λ b. at + 224 * cond b 1 0) t
-    ; images = λ q.
-        c .stamp .ensures q
-        ∙ ap (λ j. replaced p (stamped n (take j (drop at new)) (images p)) images q) k
-        ∙ sym (cond-true (has (c .args .set) p) (replaced p (stamped n (part at 224 new) (images p)) images q) (images q) (sym t))
+    record {
+      next = ap (λ b. at + 224 * cond b 1 0) t;
+      images = λ q.
+          c .stamp .ensures q
+          ∙ ap (λ j. replaced p (stamped n (take j (drop at new)) (images p)) images q) k
+          ∙ sym (cond-true (has (c .args .set) p) (replaced p (stamped n (part at 224 new) (images p)) images q) (images q) (sym t));
     }

@@ -18,10 +18,10 @@ returns c =
     let t = c .if-not-contains .ensures tt in
     let x = contentsOf (imageAt images (c .args .page)) in
     let same = c .copy-from-slice .ensures .after ∙ contents-part images (c .args .page) in
-    record
-    { next = ap (λ b. at + 224 * cond b 1 0) t
-    ; front =
-        lifted at old (take at old) (c .copy-from-slice .last .self) (c .pre .room (sym t))
+    record {
+      next = ap (λ b. at + 224 * cond b 1 0) t;
+      front =
+          lifted at old (take at old) (c .copy-from-slice .last .self) (c .pre .room (sym t))
           (ap length same ∙ contents-length images (c .args .page) (c .args .self .now .sized) (c .pre .page)) refl
-        ∙ ap (λ y. take at old ++ y) (same ∙ sym (cond-true (has (c .args .set) (c .args .page)) x [] (sym t)))
+          ∙ ap (λ y. take at old ++ y) (same ∙ sym (cond-true (has (c .args .set) (c .args .page)) x [] (sym t)));
     }
