@@ -45,11 +45,11 @@ when-by P false x a h e = let z : _≡_ {A = ℕ} 0 1 = cc in absurd (omega arit
 
 -- by the four forms
 pub parse-cases : (P : Action → Type 0) (b : List ℕ)
-  → ((leb (getD b 1 0) 63 && (ltb 0 (length (drop 3 b)) && leb (getD b 2 0 + length (drop 3 b)) 224)) ≡ true → P (patch (getD b 1 0) (getD b 2 0) (drop 3 b)))
-  → (leb (getD b 1 0) 63 ≡ true → P (fill (getD b 1 0) (getD b 2 0)))
-  → ((ltb 0 (getD b 3 0) && (leb (getD b 3 0) 4 && (leb (getD b 1 0 + getD b 3 0) 64 && (leb (getD b 2 0 + getD b 3 0) 64 && (leb (getD b 1 0 + getD b 3 0) (getD b 2 0) || leb (getD b 2 0 + getD b 3 0) (getD b 1 0)))))) ≡ true → P (copy (getD b 1 0) (getD b 2 0) (getD b 3 0)))
-  → ((leb (getD b 1 0) 63 && (leb (getD b 2 0) 63 && not (eqb (getD b 1 0) (getD b 2 0)))) ≡ true → P (swap (getD b 1 0) (getD b 2 0)))
-  → (a : Action) → parse b ≡ Some a → P a
+    → ((leb (getD b 1 0) 63 && (ltb 0 (length (drop 3 b)) && leb (getD b 2 0 + length (drop 3 b)) 224)) ≡ true → P (patch (getD b 1 0) (getD b 2 0) (drop 3 b)))
+    → (leb (getD b 1 0) 63 ≡ true → P (fill (getD b 1 0) (getD b 2 0)))
+    → ((ltb 0 (getD b 3 0) && (leb (getD b 3 0) 4 && (leb (getD b 1 0 + getD b 3 0) 64 && (leb (getD b 2 0 + getD b 3 0) 64 && (leb (getD b 1 0 + getD b 3 0) (getD b 2 0) || leb (getD b 2 0 + getD b 3 0) (getD b 1 0)))))) ≡ true → P (copy (getD b 1 0) (getD b 2 0) (getD b 3 0)))
+    → ((leb (getD b 1 0) 63 && (leb (getD b 2 0) 63 && not (eqb (getD b 1 0) (getD b 2 0)))) ≡ true → P (swap (getD b 1 0) (getD b 2 0)))
+    → (a : Action) → parse b ≡ Some a → P a
 unfolding parse
 parse-cases P b hp hf hc hs a =
     cond-both (eqb (getD b 0 0) 1 && leb 3 (length b)) (patchOf (getD b 1 0) (getD b 2 0) (drop 3 b)) _ (λ o. o ≡ Some a → P a) (λ _. when-by P _ (patch (getD b 1 0) (getD b 2 0) (drop 3 b)) a hp)
@@ -97,9 +97,9 @@ Brings (swap a b) = Unit {0}
 
 byte-at : (b : List ℕ) (i : ℕ) → Bytes b → getD b i 0 < 256
 byte-at b i all = elim (cases-lt i (length b)) [
-    inl l ↦ all-getD (λ x. x < 256) b i 0 l all
+  | inl l ↦ all-getD (λ x. x < 256) b i 0 l all
   | inr past ↦ let e = getD-past b i 0 past in omega arith
-  ]
+]
 
 pub parse-brings : (b : List ℕ) → Bytes b → (a : Action) → parse b ≡ Some a → Brings a
 parse-brings b all = parse-cases Brings b (λ _. all-drop (λ x. x < 256) 3 b all) (λ _. byte-at b 2 all) (λ _. tt) (λ _. tt)
@@ -155,16 +155,16 @@ page-reply-done b old n a e h =
 
 pub page-lawful : Lawful pageMeaning
 page-lawful = record {
-    limit-from = omega arith;
-    limit-to = omega arith;
-    scoped = λ b r w e. scoped′ (parse b) (parse-good b) r w e;
-    code-one = λ b c e. code (parse b) c e;
-    refused = λ b old c e. refused′ (parse b) old c e;
-    accepted = λ b old s e f. accepted′ (parse b) old s e f;
-    unsized = λ b old r w e h. unsized′ (parse b) old r w e h;
-    sized = λ b old new r w e f. sized′ (parse b) (parse-good b) old new r w e f;
-    bytes = λ b old new bs os f. bytes′ (parse b) (parse-brings b bs) old new os f
-  }
+  limit-from = omega arith;
+  limit-to = omega arith;
+  scoped = λ b r w e. scoped′ (parse b) (parse-good b) r w e;
+  code-one = λ b c e. code (parse b) c e;
+  refused = λ b old c e. refused′ (parse b) old c e;
+  accepted = λ b old s e f. accepted′ (parse b) old s e f;
+  unsized = λ b old r w e h. unsized′ (parse b) old r w e h;
+  sized = λ b old new r w e f. sized′ (parse b) (parse-good b) old new r w e f;
+  bytes = λ b old new bs os f. bytes′ (parse b) (parse-brings b bs) old new os f;
+}
   where
     scoped′ : (o : Option Action) → ((a : Action) → o ≡ Some a → Good a) → (r w : ℕ) → scopeBy o ≡ Ok (r, w) → Scoped 4 r w
     scoped′ (Some a) good r w e =

@@ -48,42 +48,42 @@ module _ (m n : Meaning) where
   nothing-lawful : Lawful nothing
   unfolding nothing
   nothing-lawful = record {
-      limit-from = omega arith;
-      limit-to = omega arith;
-      scoped = λ b r w e. absurd (let z : _≡_ {A = ℕ} 0 1 = cc in omega arith);
-      code-one = λ b c e. cc;
-      refused = λ b old c e. refl;
-      accepted = λ b old s e f. let z : _≡_ {A = ℕ} 0 1 = cc in omega arith;
-      unsized = λ b old r w e h. absurd (let z : _≡_ {A = ℕ} 0 1 = cc in omega arith);
-      sized = λ b old new r w e f. absurd (let z : _≡_ {A = ℕ} 0 1 = cc in omega arith);
-      bytes = λ b old new bs os f. absurd (let z : _≡_ {A = ℕ} 0 1 = cc in omega arith)
-    }
+    limit-from = omega arith;
+    limit-to = omega arith;
+    scoped = λ b r w e. absurd (let z : _≡_ {A = ℕ} 0 1 = cc in omega arith);
+    code-one = λ b c e. cc;
+    refused = λ b old c e. refl;
+    accepted = λ b old s e f. let z : _≡_ {A = ℕ} 0 1 = cc in omega arith;
+    unsized = λ b old r w e h. absurd (let z : _≡_ {A = ℕ} 0 1 = cc in omega arith);
+    sized = λ b old new r w e f. absurd (let z : _≡_ {A = ℕ} 0 1 = cc in omega arith);
+    bytes = λ b old new bs os f. absurd (let z : _≡_ {A = ℕ} 0 1 = cc in omega arith);
+  }
 
   -- what holds of a body by the kind that is chosen
   by-choice : (P : List ℕ → Type 0) → Lawful m → Lawful n → ((b : List ℕ) (k : Meaning) → Lawful k → Chosen b k (drop 1 b) → P b) → (b : List ℕ) → P b
   by-choice P lm ln h b = elim (cases-bool (eqb (getD b 0 0) 1)) [
-      inl one ↦ h b m lm (first b one)
+    | inl one ↦ h b m lm (first b one)
     | inr other ↦ elim (cases-bool (eqb (getD b 0 0) 2)) [
-        inl two ↦ h b n ln (second b other two)
+      | inl two ↦ h b n ln (second b other two)
       | inr none ↦ h b nothing nothing-lawful (neither b other none)
-      ]
     ]
+  ]
 
   wider : (k : ℕ) (r w : ℕ) → k ≤ 4 → Scoped k r w → Scoped 4 r w
   wider k r w l s = record { reads-pages = s .reads-pages; writes-pages = s .writes-pages; reads-few = omega arith; writes-few = omega arith; writes-some = s .writes-some }
 
   pub pair-lawful : Lawful m → Lawful n → Lawful (pairMeaning m n)
   pair-lawful lm ln = record {
-      limit-from = omega arith;
-      limit-to = omega arith;
-      scoped = λ b r w. by-choice (λ b. pairMeaning m n .scope b ≡ Ok (r, w) → Scoped 4 r w) lm ln (λ b k l c e. wider (k .limit) r w (l .limit-to) (l .scoped (drop 1 b) r w (sym (c .by-scope) ∙ e))) b;
-      code-one = λ b x. by-choice (λ b. pairMeaning m n .scope b ≡ Err x → x ≡ 1) lm ln (λ b k l c e. l .code-one (drop 1 b) x (sym (c .by-scope) ∙ e)) b;
-      refused = λ b old x. by-choice (λ b. pairMeaning m n .scope b ≡ Err x → pairMeaning m n .effect b old ≡ Err 1) lm ln (λ b k l c e. c .by-effect old ∙ l .refused (drop 1 b) old x (sym (c .by-scope) ∙ e)) b;
-      accepted = λ b old s. by-choice (λ b. pairMeaning m n .scope b ≡ Ok s → pairMeaning m n .effect b old ≡ Err 1 → ⊥) lm ln (λ b k l c e f. l .accepted (drop 1 b) old s (sym (c .by-scope) ∙ e) (sym (c .by-effect old) ∙ f)) b;
-      unsized = λ b old r w. by-choice (λ b. pairMeaning m n .scope b ≡ Ok (r, w) → (length old ≡ 224 * size r → ⊥) → pairMeaning m n .effect b old ≡ Err 2) lm ln (λ b k l c e h. c .by-effect old ∙ l .unsized (drop 1 b) old r w (sym (c .by-scope) ∙ e) h) b;
-      sized = λ b old new r w. by-choice (λ b. pairMeaning m n .scope b ≡ Ok (r, w) → pairMeaning m n .effect b old ≡ Ok new → length new ≡ 224 * size w) lm ln (λ b k l c e f. l .sized (drop 1 b) old new r w (sym (c .by-scope) ∙ e) (sym (c .by-effect old) ∙ f)) b;
-      bytes = λ b old new. by-choice (λ b. Bytes b → Bytes old → pairMeaning m n .effect b old ≡ Ok new → Bytes new) lm ln (λ b k l c bs os f. l .bytes (drop 1 b) old new (all-drop (λ x. x < 256) 1 b bs) os (sym (c .by-effect old) ∙ f)) b
-    }
+    limit-from = omega arith;
+    limit-to = omega arith;
+    scoped = λ b r w. by-choice (λ b. pairMeaning m n .scope b ≡ Ok (r, w) → Scoped 4 r w) lm ln (λ b k l c e. wider (k .limit) r w (l .limit-to) (l .scoped (drop 1 b) r w (sym (c .by-scope) ∙ e))) b;
+    code-one = λ b x. by-choice (λ b. pairMeaning m n .scope b ≡ Err x → x ≡ 1) lm ln (λ b k l c e. l .code-one (drop 1 b) x (sym (c .by-scope) ∙ e)) b;
+    refused = λ b old x. by-choice (λ b. pairMeaning m n .scope b ≡ Err x → pairMeaning m n .effect b old ≡ Err 1) lm ln (λ b k l c e. c .by-effect old ∙ l .refused (drop 1 b) old x (sym (c .by-scope) ∙ e)) b;
+    accepted = λ b old s. by-choice (λ b. pairMeaning m n .scope b ≡ Ok s → pairMeaning m n .effect b old ≡ Err 1 → ⊥) lm ln (λ b k l c e f. l .accepted (drop 1 b) old s (sym (c .by-scope) ∙ e) (sym (c .by-effect old) ∙ f)) b;
+    unsized = λ b old r w. by-choice (λ b. pairMeaning m n .scope b ≡ Ok (r, w) → (length old ≡ 224 * size r → ⊥) → pairMeaning m n .effect b old ≡ Err 2) lm ln (λ b k l c e h. c .by-effect old ∙ l .unsized (drop 1 b) old r w (sym (c .by-scope) ∙ e) h) b;
+    sized = λ b old new r w. by-choice (λ b. pairMeaning m n .scope b ≡ Ok (r, w) → pairMeaning m n .effect b old ≡ Ok new → length new ≡ 224 * size w) lm ln (λ b k l c e f. l .sized (drop 1 b) old new r w (sym (c .by-scope) ∙ e) (sym (c .by-effect old) ∙ f)) b;
+    bytes = λ b old new. by-choice (λ b. Bytes b → Bytes old → pairMeaning m n .effect b old ≡ Ok new → Bytes new) lm ln (λ b k l c bs os f. l .bytes (drop 1 b) old new (all-drop (λ x. x < 256) 1 b bs) os (sym (c .by-effect old) ∙ f)) b;
+  }
 
   -- the calls of the pair
   pub pair-first : (b old : List ℕ) (k : ℕ) → getD b 0 0 ≡ 1 → (pairMeaning m n .scope b ≡ m .scope (drop 1 b)) × (reply (pairMeaning m n) b old k ≡ reply m (drop 1 b) old k)

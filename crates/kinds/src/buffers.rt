@@ -4,7 +4,6 @@ ghost use mathlib.Core.Bool.{_&&_};
 ghost use Prim.Native.Nat.{_*_};
 ghost use lib.Dec.{eqb};
 ghost use Rattle.sets.specs.Sets.{size as sizeOf};
-
 use sets::size;
 
 const CONTENTS: usize = 224;

@@ -1,6 +1,5 @@
 // The page kind: operations on whole pages.
 ghost use Rattle.kinds.specs.Actions.{pageMeaning};
-
 use crate::buffers::sized;
 use crate::kind::Kind;
 use crate::op::Op;

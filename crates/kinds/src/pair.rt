@@ -1,6 +1,5 @@
 // A pair of two kinds: the first byte of a body chooses the kind of the rest.
 ghost use Rattle.kinds.specs.Pairs.{pairMeaning};
-
 use crate::kind::Kind;
 use std::marker::PhantomData;
 

@@ -3,12 +3,14 @@ ghost use mathlib.Core.Path.{_≡_};
 ghost use Rattle.kinds.specs.Actions.{patchOf, fillOf, copyOf, swapOf};
 ghost use Rattle.kinds.specs.Actions.{parse as parseOf};
 ghost use Rattle.kinds.specs.Views.{viewed};
-
 use crate::op::Op;
 
 const LAST_PAGE: u8 = 63;
+
 const PAGES: usize = 64;
+
 const CONTENTS: usize = 224;
+
 const MOST: u8 = 4;
 
 fn patch_of<'a>(page: u8, offset: u8, bytes: &'a [u8]) -> Option<Op<'a>>
@@ -23,7 +25,11 @@ fn patch_of<'a>(page: u8, offset: u8, bytes: &'a [u8]) -> Option<Op<'a>>
     if bytes.len() > CONTENTS || offset as usize + bytes.len() > CONTENTS {
         return None;
     }
-    Some(Op::Patch { page, offset, bytes })
+    Some(Op::Patch {
+        page,
+        offset,
+        bytes,
+    })
 }
 
 fn fill_of<'a>(page: u8, byte: u8) -> Option<Op<'a>>

@@ -3,7 +3,6 @@ ghost use mathlib.Core.Path.{_≡_};
 ghost use Rattle.kinds.specs.Actions.{sets as setsOf};
 ghost use Rattle.kinds.specs.PageSets.{only as onlyOf, both as bothOf, run as runOf};
 ghost use Rattle.kinds.specs.Views.{view};
-
 use crate::op::Op;
 use sets::single;
 use sets::union;

@@ -5,7 +5,6 @@ ghost use Prim.Native.Nat.{_+_, _≤_};
 ghost use lib.ListN.{length, take, drop};
 ghost use Rattle.kinds.specs.Actions.{change, Ready};
 ghost use Rattle.kinds.specs.Views.{view};
-
 use crate::op::Op;
 
 const CONTENTS: usize = 224;

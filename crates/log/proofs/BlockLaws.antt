@@ -70,7 +70,7 @@ record-back bs all is =
     go bs (getD bs 20 0) 4 12 20 21 refl refl refl refl refl (eqb-true (length bs) 256 (p .0)) (leb-true (getD bs 20 0) 232 (q .0)) (q .1) all
   where
     go : (bs : List ℕ) (n a b c d : ℕ) → a ≡ 4 → b ≡ 12 → c ≡ 20 → d ≡ 21 → getD bs c 0 ≡ n → length bs ≡ 256 → n ≤ 232 → zeros (drop (d + n) bs) ≡ true → All (λ b. b < 256) bs
-      → (bytesOf 4 (number (part 0 4 bs)) ++ (bytesOf 8 (number (part a 8 bs)) ++ bytesOf 8 (number (part b 8 bs)))) ++ (length (part d n bs) ∷ (part d n bs ++ replicate (235 - length (part d n bs)) 0)) ≡ bs
+        → (bytesOf 4 (number (part 0 4 bs)) ++ (bytesOf 8 (number (part a 8 bs)) ++ bytesOf 8 (number (part b 8 bs)))) ++ (length (part d n bs) ∷ (part d n bs ++ replicate (235 - length (part d n bs)) 0)) ≡ bs
     go bs n a b c d ea eb ec ed g len le z all =
         let ln : length (part d n bs) ≡ n = part-length d n bs (omega arith) in
         let w0 = part-word 0 4 bs (omega arith) all in
@@ -83,14 +83,14 @@ record-back bs all is =
         let r3 : length (part d n bs) ∷ (part d n bs ++ replicate (235 - length (part d n bs)) 0) ≡ drop c bs = ap₂ _∷_ (ln ∙ sym g) (r4 ∙ ap (λ j. drop j bs) (sym e1)) ∙ sym (drop-more bs c 0 (omega arith)) in
         append-assoc (bytesOf 4 (number (part 0 4 bs))) (bytesOf 8 (number (part a 8 bs)) ++ bytesOf 8 (number (part b 8 bs))) (length (part d n bs) ∷ (part d n bs ++ replicate (235 - length (part d n bs)) 0))
         ∙ ap₂ _++_ w0 (append-assoc (bytesOf 8 (number (part a 8 bs))) (bytesOf 8 (number (part b 8 bs))) (length (part d n bs) ∷ (part d n bs ++ replicate (235 - length (part d n bs)) 0))
-          ∙ ap₂ _++_ w1 (ap₂ _++_ w2 r3 ∙ rejoin b 8 c bs (drop c bs) (omega arith) refl) ∙ rejoin a 8 b bs (drop b bs) (omega arith) refl)
+        ∙ ap₂ _++_ w1 (ap₂ _++_ w2 r3 ∙ rejoin b 8 c bs (drop c bs) (omega arith) refl) ∙ rejoin a 8 b bs (drop b bs) (omega arith) refl)
         ∙ rejoin 0 4 a bs (drop a bs) (omega arith) refl
 
 pub read-back : (bs : List ℕ) → All (λ b. b < 256) bs → (e : Entry) → readRecord bs ≡ Some e → blockOf e ≡ bs
 read-back bs all e r = elim (cases-bool (isRecord bs)) [
-    inl is ↦ let same : e ≡ entryOf bs = some-same e (entryOf bs) (sym r ∙ cond-true (isRecord bs) (Some (entryOf bs)) None is) in ap blockOf same ∙ record-back bs all is
+  | inl is ↦ let same : e ≡ entryOf bs = some-same e (entryOf bs) (sym r ∙ cond-true (isRecord bs) (Some (entryOf bs)) None is) in ap blockOf same ∙ record-back bs all is
   | inr isnt ↦ absurd (none-some e (sym r ∙ cond-false (isRecord bs) (Some (entryOf bs)) None isnt))
-  ]
+]
   where
     some-same : (x y : Entry) → _≡_ {A = Option Entry} (Some x) (Some y) → x ≡ y
     some-same x y h = cc
@@ -101,7 +101,7 @@ read-back bs all e r = elim (cases-bool (isRecord bs)) [
 -- a block in its parts, and what it reads as
 module _ (q0 q1 q2 body z : List ℕ) (l0 : length q0 ≡ 4) (l1 : length q1 ≡ 8) (l2 : length q2 ≡ 8) (few : length body ≤ 232) (lz : length z ≡ 235 - length body) (iz : zeros z ≡ true) where
   reads-parts : (bs : List ℕ) (a b c d m : ℕ) → a ≡ 4 → b ≡ 12 → c ≡ 20 → d ≡ 21 → m ≡ length body → bs ≡ (q0 ++ (q1 ++ q2)) ++ (m ∷ (body ++ z))
-    → (length bs ≡ 256) × (getD bs c 0 ≡ m) × (part 0 4 bs ≡ q0) × (part a 8 bs ≡ q1) × (part b 8 bs ≡ q2) × (part d m bs ≡ body) × (drop (d + m) bs ≡ z)
+      → (length bs ≡ 256) × (getD bs c 0 ≡ m) × (part 0 4 bs ≡ q0) × (part a 8 bs ≡ q1) × (part b 8 bs ≡ q2) × (part d m bs ≡ body) × (drop (d + m) bs ≡ z)
   reads-parts bs a b c d m ea eb ec ed em e =
       let whole : length bs ≡ 256 = ap length e ∙ simp length-append (omega arith) in
       let lh : length (q0 ++ (q1 ++ q2)) ≡ c = simp length-append (omega arith) in
@@ -109,17 +109,18 @@ module _ (q0 q1 q2 body z : List ℕ) (l0 : length q0 ≡ 4) (l1 : length q1 ≡
       let e1 : bs ≡ q0 ++ (q1 ++ (q2 ++ (m ∷ (body ++ z)))) = e0 ∙ ap (λ t. q0 ++ t) (append-assoc q1 q2 (m ∷ (body ++ z))) in
       let e2 : bs ≡ (q0 ++ q1) ++ (q2 ++ (m ∷ (body ++ z))) = e1 ∙ sym (append-assoc q0 q1 (q2 ++ (m ∷ (body ++ z)))) in
       let e3 : bs ≡ ((q0 ++ (q1 ++ q2)) ++ (m ∷ [])) ++ (body ++ z) = e ∙ sym (append-assoc (q0 ++ (q1 ++ q2)) (m ∷ []) (body ++ z)) in
-      let e4 : bs ≡ (((q0 ++ (q1 ++ q2)) ++ (m ∷ [])) ++ body) ++ z = e3 ∙ sym (append-assoc ((q0 ++ (q1 ++ q2)) ++ (m ∷ [])) body z) in
-      (whole,
-       ap (λ t. getD t c 0) e ∙ getD-at (q0 ++ (q1 ++ q2)) m (body ++ z) 0 c lh,
-       ap (part 0 4) e0 ∙ part-at [] q0 ((q1 ++ q2) ++ (m ∷ (body ++ z))) 0 4 refl l0,
-       ap (part a 8) e1 ∙ part-at q0 q1 (q2 ++ (m ∷ (body ++ z))) a 8 (l0 ∙ sym ea) l1,
-       ap (part b 8) e2 ∙ part-at (q0 ++ q1) q2 (m ∷ (body ++ z)) b 8 (simp length-append (omega arith)) l2,
-       ap (part d m) e3 ∙ part-at ((q0 ++ (q1 ++ q2)) ++ (m ∷ [])) body z d m (simp length-append (omega arith)) (sym em),
-       ap (drop (d + m)) e4 ∙ drop-at (((q0 ++ (q1 ++ q2)) ++ (m ∷ [])) ++ body) z (d + m) (simp length-append (omega arith)))
+      let e4 : bs ≡ (((q0 ++ (q1 ++ q2)) ++ (m ∷ [])) ++ body) ++ z = e3 ∙ sym (append-assoc ((q0 ++ (q1 ++ q2)) ++ (m ∷ [])) body z) in (
+        whole,
+        ap (λ t. getD t c 0) e ∙ getD-at (q0 ++ (q1 ++ q2)) m (body ++ z) 0 c lh,
+        ap (part 0 4) e0 ∙ part-at [] q0 ((q1 ++ q2) ++ (m ∷ (body ++ z))) 0 4 refl l0,
+        ap (part a 8) e1 ∙ part-at q0 q1 (q2 ++ (m ∷ (body ++ z))) a 8 (l0 ∙ sym ea) l1,
+        ap (part b 8) e2 ∙ part-at (q0 ++ q1) q2 (m ∷ (body ++ z)) b 8 (simp length-append (omega arith)) l2,
+        ap (part d m) e3 ∙ part-at ((q0 ++ (q1 ++ q2)) ++ (m ∷ [])) body z d m (simp length-append (omega arith)) (sym em),
+        ap (drop (d + m)) e4 ∙ drop-at (((q0 ++ (q1 ++ q2)) ++ (m ∷ [])) ++ body) z (d + m) (simp length-append (omega arith)),
+      )
 
   reads-as : (bs : List ℕ) → bs ≡ (q0 ++ (q1 ++ q2)) ++ (length body ∷ (body ++ z))
-    → readRecord bs ≡ Some (record { number = number q0; reads = number q1; writes = number q2; body = body })
+      → readRecord bs ≡ Some (record { number = number q0; reads = number q1; writes = number q2; body = body })
   reads-as bs e =
       let f = reads-parts bs 4 12 20 21 (length body) refl refl refl refl refl e in
       let g : getD bs 20 0 ≡ length body = f .1 in
@@ -143,9 +144,9 @@ write-back e hn hr hw hb =
 pub header-back : (bs : List ℕ) → All (λ b. b < 256) bs → (n : ℕ) → readHeader bs ≡ Some n → headerOf n ≡ bs
 unfolding headerOf
 header-back bs all n r = elim (cases-bool (isHeader bs)) [
-    inl is ↦ let e : n ≡ number (part 4 4 bs) = some-same n (number (part 4 4 bs)) (sym r ∙ cond-true (isHeader bs) (Some (number (part 4 4 bs))) None is) in ap headerOf e ∙ whole is
+  | inl is ↦ let e : n ≡ number (part 4 4 bs) = some-same n (number (part 4 4 bs)) (sym r ∙ cond-true (isHeader bs) (Some (number (part 4 4 bs))) None is) in ap headerOf e ∙ whole is
   | inr isnt ↦ absurd (none-some n (sym r ∙ cond-false (isHeader bs) (Some (number (part 4 4 bs))) None isnt))
-  ]
+]
   where
     some-same : (x y : ℕ) → _≡_ {A = Option ℕ} (Some x) (Some y) → x ≡ y
     some-same x y h = cc
@@ -154,7 +155,7 @@ header-back bs all n r = elim (cases-bool (isHeader bs)) [
     none-some x h = let z : _≡_ {A = ℕ} 0 1 = cc in omega arith
 
     go : (m a b k : ℕ) → m ≡ length bs → m ≡ 256 → a ≡ 4 → b ≡ 8 → k ≡ 248 → same (take a bs) (codes "LTR1") ≡ true → zeros (drop b bs) ≡ true
-      → codes "LTR1" ++ (bytesOf 4 (number (part a 4 bs)) ++ replicate k 0) ≡ bs
+        → codes "LTR1" ++ (bytesOf 4 (number (part a 4 bs)) ++ replicate k 0) ≡ bs
     go m a b k em e6 ea eb ek t z =
         let lz : length (drop b bs) ≡ k = simp length-drop (omega arith) in
         let tail : replicate k 0 ≡ drop b bs = ap (λ j. replicate j 0) (sym lz) ∙ zeros-only (drop b bs) z in
@@ -201,15 +202,15 @@ laid-out e bs h = h ∙ joined (bytesOf 4 (e .number)) (bytesOf 8 (e .reads)) (b
     joined a b d n x z = simp append-assoc
 
 pub write-record : (e : Entry) (s0 s1 s2 s3 s4 w : List ℕ) (m : ℕ) → length (e .body) ≤ 232 → m ≡ length (e .body) → w ≡ e .body → s0 ≡ replicate 256 0
-  → s1 ≡ over 0 (bytesOf 4 (e .number)) s0 → s2 ≡ over 4 (bytesOf 8 (e .reads)) s1 → s3 ≡ over 12 (bytesOf 8 (e .writes)) s2 → s4 ≡ set s3 20 (length (e .body))
-  → putMid 21 m s4 w ≡ blockOf e
+    → s1 ≡ over 0 (bytesOf 4 (e .number)) s0 → s2 ≡ over 4 (bytesOf 8 (e .reads)) s1 → s3 ≡ over 12 (bytesOf 8 (e .writes)) s2 → s4 ≡ set s3 20 (length (e .body))
+    → putMid 21 m s4 w ≡ blockOf e
 write-record e s0 s1 s2 s3 s4 w m few em ew e0 e1 e2 e3 e4 =
     go (bytesOf 4 (e .number)) (bytesOf 8 (e .reads)) (bytesOf 8 (e .writes)) (bytes-length 4 (e .number)) (bytes-length 8 (e .reads)) (bytes-length 8 (e .writes)) 4 12 20 21 256 refl refl refl refl refl e0 e1 e2 e3 e4 (laid-out e)
   where
     go : (a b d : List ℕ) → length a ≡ 4 → length b ≡ 8 → length d ≡ 8 → (p q r t n : ℕ) → p ≡ 4 → q ≡ 12 → r ≡ 20 → t ≡ 21 → n ≡ 256
-      → s0 ≡ replicate n 0 → s1 ≡ over 0 a s0 → s2 ≡ over p b s1 → s3 ≡ over q d s2 → s4 ≡ set s3 r (length (e .body))
-      → ((bs : List ℕ) → bs ≡ ((((([] ++ a) ++ b) ++ d) ++ (length (e .body) ∷ [])) ++ e .body) ++ replicate (235 - length (e .body)) 0 → bs ≡ blockOf e)
-      → putMid t m s4 w ≡ blockOf e
+        → s0 ≡ replicate n 0 → s1 ≡ over 0 a s0 → s2 ≡ over p b s1 → s3 ≡ over q d s2 → s4 ≡ set s3 r (length (e .body))
+        → ((bs : List ℕ) → bs ≡ ((((([] ++ a) ++ b) ++ d) ++ (length (e .body) ∷ [])) ++ e .body) ++ replicate (235 - length (e .body)) 0 → bs ≡ blockOf e)
+        → putMid t m s4 w ≡ blockOf e
     go a b d la lb ld p q r t n ep eq er et en z0 z1 z2 z3 z4 k =
         let x1 : s1 ≡ ([] ++ a) ++ replicate 252 0 = z1 ∙ lay [] a s0 0 n 252 z0 refl (omega arith) in
         let x2 : s2 ≡ (([] ++ a) ++ b) ++ replicate 244 0 = z2 ∙ lay ([] ++ a) b s1 p 252 244 x1 (omega arith) (omega arith) in

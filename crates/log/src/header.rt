@@ -7,12 +7,12 @@ ghost use lib.Dec.{eqb};
 ghost use lib.ListN.{length, take};
 ghost use Rattle.std.specs.declared.option.Option.the-variants.{Some};
 ghost use Rattle.log.specs.Blocks.{same, isHeader, readHeader, headerOf};
-
 use crate::zeros::all_zero;
 use sets::put_u32;
 use sets::u32_at;
 
 const MAGIC: [u8; 4] = *b"LTR1";
+
 const BLOCK: usize = 256;
 
 // Whether a block begins with the text.
@@ -43,7 +43,11 @@ pub fn read_header(block: &[u8]) -> Option<u32>
     ensures value { λ r. ⌜ r ≡ readHeader (now (block .entry)) ⌝ }
     ensures back { λ r. ⌜ ((n : ℕ) → r ≡ Some n → headerOf n ≡ now (block .entry)) ⌝ }
 {
-    if is_header(block) { Some(u32_at(block, 4)) } else { None }
+    if is_header(block) {
+        Some(u32_at(block, 4))
+    } else {
+        None
+    }
 }
 
 // Writes a header block; refuses a first number of 0 and a block of another length, and leaves it then.

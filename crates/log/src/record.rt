@@ -6,7 +6,6 @@ ghost use lib.ListN.{length};
 ghost use Rattle.std.specs.declared.option.Option.the-variants.{Some};
 ghost use Rattle.log.specs.Blocks.{Entry, isRecord, readRecord, blockOf};
 ghost use Rattle.log.specs.Views.{view, viewed};
-
 use crate::zeros::all_zero;
 use sets::put_u32;
 use sets::put_u64;
@@ -22,6 +21,7 @@ pub struct Record<'a> {
 }
 
 const BLOCK: usize = 256;
+
 const LONGEST: usize = 232;
 
 // Whether a block is a record.

@@ -32,7 +32,7 @@ from-more c n i l =
     let b : 4 + 8 * i + 8 ≡ 4 + 8 * (i + 1) = omega arith in
     ap (λ m. entriesOf m (drop (4 + 8 * i) c)) k
     ∙ ap₂ _∷_ (ap (λ v. (number (part (4 + 8 * i) 4 c), v)) (ap (λ t. number (take 4 t)) (drop-drop 4 (4 + 8 * i) c ∙ ap (λ j. drop j c) a)))
-      (ap (entriesOf (n - (i + 1))) (drop-drop 8 (4 + 8 * i) c ∙ ap (λ j. drop j c) b))
+    (ap (entriesOf (n - (i + 1))) (drop-drop 8 (4 + 8 * i) c ∙ ap (λ j. drop j c) b))
 
 pub from-none : (c : List ℕ) (n i : ℕ) → n ≤ i → from c n i ≡ []
 from-none c n i l = let k : n - i ≡ 0 = omega arith in ap (λ m. entriesOf m (drop (4 + 8 * i) c)) k

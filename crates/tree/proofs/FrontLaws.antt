@@ -54,13 +54,13 @@ entry-length e = refl
 
 -- the pieces of each page
 pub spliced : (h p e q r n1 n2 n3 n4 n5 x2 x4 x5 c : List ℕ) (a i j n m : ℕ)
-  → length c ≡ 224 → length n5 ≡ 224 → length h ≡ 4 → length e ≡ 8 → a ≡ 4 → i ≤ j → j ≤ n → m ≡ n + 1 - (j - i) → m ≤ 26 → n ≤ 26
-  → take a n1 ≡ h
-  → take (a + length x2) n2 ≡ take a n1 ++ x2 → x2 ≡ take (a + 8 * i - a) (drop a c)
-  → take (a + 8 * i + 8) n3 ≡ take (a + 8 * i) n2 ++ e
-  → take (12 + 8 * i + length x4) n4 ≡ take (12 + 8 * i) n3 ++ x4 → x4 ≡ take (a + 8 * n - (a + 8 * j)) (drop (a + 8 * j) c)
-  → take (a + 8 * m + length x5) n5 ≡ take (a + 8 * m) n4 ++ x5 → x5 ≡ take (224 - (a + 8 * m)) (drop (a + 8 * m) c)
-  → n5 ≡ h ++ (part a (8 * i) c ++ (e ++ (part (a + 8 * j) (8 * (n - j)) c ++ drop (a + 8 * m) c)))
+    → length c ≡ 224 → length n5 ≡ 224 → length h ≡ 4 → length e ≡ 8 → a ≡ 4 → i ≤ j → j ≤ n → m ≡ n + 1 - (j - i) → m ≤ 26 → n ≤ 26
+    → take a n1 ≡ h
+    → take (a + length x2) n2 ≡ take a n1 ++ x2 → x2 ≡ take (a + 8 * i - a) (drop a c)
+    → take (a + 8 * i + 8) n3 ≡ take (a + 8 * i) n2 ++ e
+    → take (12 + 8 * i + length x4) n4 ≡ take (12 + 8 * i) n3 ++ x4 → x4 ≡ take (a + 8 * n - (a + 8 * j)) (drop (a + 8 * j) c)
+    → take (a + 8 * m + length x5) n5 ≡ take (a + 8 * m) n4 ++ x5 → x5 ≡ take (224 - (a + 8 * m)) (drop (a + 8 * m) c)
+    → n5 ≡ h ++ (part a (8 * i) c ++ (e ++ (part (a + 8 * j) (8 * (n - j)) c ++ drop (a + 8 * m) c)))
 spliced h p e q r n1 n2 n3 n4 n5 x2 x4 x5 c a i j n m lc ln lh le ea ij jn em mm nn e1 e2 h2 e3 e4 h4 e5 h5 =
     let p2 : x2 ≡ part a (8 * i) c = h2 ∙ between-part a (a + 8 * i) (8 * i) c (omega arith) in
     let l2 : length (part a (8 * i) c) ≡ 8 * i = part-length a (8 * i) c (omega arith) in
@@ -81,11 +81,11 @@ spliced h p e q r n1 n2 n3 n4 n5 x2 x4 x5 c a i j n m lc ln lh le ea ij jn em mm
     joined5 v w x y z = simp append-assoc
 
 pub halved : (h n1 n2 n3 x2 x3 c : List ℕ) (a s k z : ℕ)
-  → length c ≡ 224 → length n3 ≡ 224 → a ≡ 4 → k ≡ 104 → z ≡ 108 → s ≤ 108
-  → take a n1 ≡ h
-  → take (a + length x2) n2 ≡ take a n1 ++ x2 → x2 ≡ part s k c
-  → take (z + length x3) n3 ≡ take z n2 ++ x3 → length x3 ≡ 116
-  → n3 ≡ h ++ (part s k c ++ x3)
+    → length c ≡ 224 → length n3 ≡ 224 → a ≡ 4 → k ≡ 104 → z ≡ 108 → s ≤ 108
+    → take a n1 ≡ h
+    → take (a + length x2) n2 ≡ take a n1 ++ x2 → x2 ≡ part s k c
+    → take (z + length x3) n3 ≡ take z n2 ++ x3 → length x3 ≡ 116
+    → n3 ≡ h ++ (part s k c ++ x3)
 halved h n1 n2 n3 x2 x3 c a s k z lc ln ea ek ez sl e1 e2 h2 e3 l3 =
     let l2 : length (part s k c) ≡ k = part-length s k c (omega arith) in
     let f2 : take z n2 ≡ h ++ part s k c = front-more n1 n2 h x2 (part s k c) a z e2 e1 h2 (omega arith) in
@@ -93,12 +93,12 @@ halved h n1 n2 n3 x2 x3 c a s k z lc ln ea ek ez sl e1 e2 h2 e3 l3 =
     front-all n3 ((h ++ part s k c) ++ x3) 224 ln f3 ∙ append-assoc h (part s k c) x3
 
 pub shrunk : (h n1 n2 n3 n4 x2 x3 x4 c : List ℕ) (a k z y : ℕ)
-  → length c ≡ 224 → length n4 ≡ 224 → a ≡ 4 → k ≡ 104 → z ≡ 108 → y ≡ 212
-  → take a n1 ≡ h
-  → take (a + length x2) n2 ≡ take a n1 ++ x2 → x2 ≡ part a k c
-  → take (z + length x3) n3 ≡ take z n2 ++ x3 → length x3 ≡ 104
-  → take (y + length x4) n4 ≡ take y n3 ++ x4 → x4 ≡ take (224 - y) (drop y c)
-  → n4 ≡ h ++ (part a k c ++ (x3 ++ drop y c))
+    → length c ≡ 224 → length n4 ≡ 224 → a ≡ 4 → k ≡ 104 → z ≡ 108 → y ≡ 212
+    → take a n1 ≡ h
+    → take (a + length x2) n2 ≡ take a n1 ++ x2 → x2 ≡ part a k c
+    → take (z + length x3) n3 ≡ take z n2 ++ x3 → length x3 ≡ 104
+    → take (y + length x4) n4 ≡ take y n3 ++ x4 → x4 ≡ take (224 - y) (drop y c)
+    → n4 ≡ h ++ (part a k c ++ (x3 ++ drop y c))
 shrunk h n1 n2 n3 n4 x2 x3 x4 c a k z y lc ln ea ek ez ey e1 e2 h2 e3 l3 e4 h4 =
     let l2 : length (part a k c) ≡ k = part-length a k c (omega arith) in
     let f2 : take z n2 ≡ h ++ part a k c = front-more n1 n2 h x2 (part a k c) a z e2 e1 h2 (omega arith) in
@@ -112,13 +112,13 @@ shrunk h n1 n2 n3 n4 x2 x3 x4 c a k z y lc ln ea ek ez ey e1 e2 h2 e3 l3 e4 h4 =
     joined4 v w x y = simp append-assoc
 
 pub planted : (h e f n1 n2 n3 n4 n5 x4 x5 c : List ℕ) (a y : ℕ)
-  → length c ≡ 224 → length n5 ≡ 224 → a ≡ 4 → y ≡ 212 → length e ≡ 8 → length f ≡ 8
-  → take a n1 ≡ h
-  → take (a + 8) n2 ≡ take a n1 ++ e
-  → take (a + 8 + 8) n3 ≡ take (a + 8) n2 ++ f
-  → take (a + 16 + length x4) n4 ≡ take (a + 16) n3 ++ x4 → length x4 ≡ 192
-  → take (y + length x5) n5 ≡ take y n4 ++ x5 → x5 ≡ take (224 - y) (drop y c)
-  → n5 ≡ h ++ (e ++ (f ++ (x4 ++ drop y c)))
+    → length c ≡ 224 → length n5 ≡ 224 → a ≡ 4 → y ≡ 212 → length e ≡ 8 → length f ≡ 8
+    → take a n1 ≡ h
+    → take (a + 8) n2 ≡ take a n1 ++ e
+    → take (a + 8 + 8) n3 ≡ take (a + 8) n2 ++ f
+    → take (a + 16 + length x4) n4 ≡ take (a + 16) n3 ++ x4 → length x4 ≡ 192
+    → take (y + length x5) n5 ≡ take y n4 ++ x5 → x5 ≡ take (224 - y) (drop y c)
+    → n5 ≡ h ++ (e ++ (f ++ (x4 ++ drop y c)))
 planted h e f n1 n2 n3 n4 n5 x4 x5 c a y lc ln ea ey le lf e1 e2 e3 e4 l4 e5 h5 =
     let s2 : a + 8 ≡ a + length e = omega arith in
     let f2 : take (a + 8) n2 ≡ h ++ e = front-more n1 n2 h e e a (a + 8) (ap (λ k. take k n2) (sym s2) ∙ e2) e1 refl (omega arith) in

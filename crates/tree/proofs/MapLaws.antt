@@ -40,7 +40,7 @@ codec m es c w = (refl, refl, entries-back es (replicate (8 * (count c - length 
 
 -- a put into a list, by its three ways
 put-by : (P : List Entry → Type 0) (o : KeyOrdering) (k v : ℕ) (e : Entry) (es : List Entry)
-  → (eqb (e .0) k ≡ true → P ((k, v) ∷ es)) → (eqb (e .0) k ≡ false → o .less k (e .0) ≡ true → P ((k, v) ∷ (e ∷ es))) → (eqb (e .0) k ≡ false → o .less k (e .0) ≡ false → P (e ∷ put o k v es)) → P (put o k v (e ∷ es))
+    → (eqb (e .0) k ≡ true → P ((k, v) ∷ es)) → (eqb (e .0) k ≡ false → o .less k (e .0) ≡ true → P ((k, v) ∷ (e ∷ es))) → (eqb (e .0) k ≡ false → o .less k (e .0) ≡ false → P (e ∷ put o k v es)) → P (put o k v (e ∷ es))
 put-by P o k v e es same less more = go (eqb (e .0) k) (o .less k (e .0)) same less more
   where
     go : (x y : Bool) → (x ≡ true → P ((k, v) ∷ es)) → (x ≡ false → y ≡ true → P ((k, v) ∷ (e ∷ es))) → (x ≡ false → y ≡ false → P (e ∷ put o k v es)) → P (cond x ((k, v) ∷ es) (cond y ((k, v) ∷ (e ∷ es)) (e ∷ put o k v es)))
@@ -66,27 +66,27 @@ put-keeps o k v j (e ∷ es) ne =
     let ih = put-keeps o k v j es ne in
     let gone : (xs : List Entry) → find j ((k, v) ∷ xs) ≡ find j xs = λ xs. find-other j (k, v) xs (ne-eqb k j (λ h. ne (sym h))) in
     put-by (λ xs. find j xs ≡ find j (e ∷ es)) o k v e es
-      (λ same. gone es ∙ sym (find-other j e es (ne-eqb (e .0) j (λ h. ne (sym h ∙ eqb-true (e .0) k same)))))
-      (λ _ _. gone (e ∷ es))
-      (λ _ _. ap (λ r. cond (eqb (e .0) j) (Some (e .1)) r) ih)
+    (λ same. gone es ∙ sym (find-other j e es (ne-eqb (e .0) j (λ h. ne (sym h ∙ eqb-true (e .0) k same)))))
+    (λ _ _. gone (e ∷ es))
+    (λ _ _. ap (λ r. cond (eqb (e .0) j) (Some (e .1)) r) ih)
 
 put-above : (o : KeyOrdering) → TotalOrder o → (x k v : ℕ) (es : List Entry) → o .less x k ≡ true → above o x es ≡ true → above o x (put o k v es) ≡ true
 put-above o t x k v [] below rise = and-from (o .less x k) true below refl
 put-above o t x k v (e ∷ es) below rise =
     let parts = and-parts (o .less x (e .0)) (above o (e .0) es) rise in
     put-by (λ xs. above o x xs ≡ true) o k v e es
-      (λ same. and-from (o .less x k) (above o k es) below (ap (λ y. above o y es) (sym (eqb-true (e .0) k same)) ∙ parts .1))
-      (λ _ less. and-from (o .less x k) (above o k (e ∷ es)) below (and-from (o .less k (e .0)) (above o (e .0) es) less (parts .1)))
-      (λ other more. and-from (o .less x (e .0)) (above o (e .0) (put o k v es)) (parts .0)
-        (put-above o t (e .0) k v es (elim (cases-bool (o .less (e .0) k)) [ inl y ↦ y | inr n ↦ absurd (eqb-false (e .0) k other (t .total (e .0) k n more)) ]) (parts .1)))
+    (λ same. and-from (o .less x k) (above o k es) below (ap (λ y. above o y es) (sym (eqb-true (e .0) k same)) ∙ parts .1))
+    (λ _ less. and-from (o .less x k) (above o k (e ∷ es)) below (and-from (o .less k (e .0)) (above o (e .0) es) less (parts .1)))
+    (λ other more. and-from (o .less x (e .0)) (above o (e .0) (put o k v es)) (parts .0)
+    (put-above o t (e .0) k v es (elim (cases-bool (o .less (e .0) k)) [ inl y ↦ y | inr n ↦ absurd (eqb-false (e .0) k other (t .total (e .0) k n more)) ]) (parts .1)))
 
 put-rising : (o : KeyOrdering) → TotalOrder o → (k v : ℕ) (es : List Entry) → rising o es ≡ true → rising o (put o k v es) ≡ true
 put-rising o t k v [] rise = refl
 put-rising o t k v (e ∷ es) rise =
     put-by (λ xs. rising o xs ≡ true) o k v e es
-      (λ same. ap (λ y. above o y es) (sym (eqb-true (e .0) k same)) ∙ rise)
-      (λ _ less. and-from (o .less k (e .0)) (above o (e .0) es) less rise)
-      (λ other more. put-above o t (e .0) k v es (elim (cases-bool (o .less (e .0) k)) [ inl y ↦ y | inr n ↦ absurd (eqb-false (e .0) k other (t .total (e .0) k n more)) ]) rise)
+    (λ same. ap (λ y. above o y es) (sym (eqb-true (e .0) k same)) ∙ rise)
+    (λ _ less. and-from (o .less k (e .0)) (above o (e .0) es) less rise)
+    (λ other more. put-above o t (e .0) k v es (elim (cases-bool (o .less (e .0) k)) [ inl y ↦ y | inr n ↦ absurd (eqb-false (e .0) k other (t .total (e .0) k n more)) ]) rise)
 
 pub puts : (o : KeyOrdering) → TotalOrder o → Puts o
 puts o t = record { itself = put-finds o; others = put-keeps o; rises = put-rising o t }

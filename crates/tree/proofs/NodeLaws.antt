@@ -24,9 +24,9 @@ use Rattle.tree.proofs.EntryLaws.{from, from-more, from-none, entryAt}
 
 below-less : (o : KeyOrdering) → TotalOrder o → (a k : ℕ) → o .less k a ≡ true → o .less a k ≡ false
 below-less o t a k h = elim (cases-bool (o .less a k)) [
-    inl y ↦ absurd (both-ways (o .less k k) (t .apart k) (t .onward k a k h y))
+  | inl y ↦ absurd (both-ways (o .less k k) (t .apart k) (t .onward k a k h y))
   | inr n ↦ n
-  ]
+]
 
 pub put-is : (o : KeyOrdering) → TotalOrder o → (k v : ℕ) (es : List Entry) → put o k v es ≡ take (before o k es) es ++ ((k, v) ∷ drop (before o k es + hit k (drop (before o k es) es)) es)
 put-is o t k v [] = refl
@@ -36,7 +36,7 @@ put-is o t k v (e ∷ es) = go (cases-bool (eqb (e .0) k)) (cases-bool (o .less 
     Goal b p = p ≡ take b (e ∷ es) ++ ((k, v) ∷ drop (b + hit k (drop b (e ∷ es))) (e ∷ es))
 
     go : (eqb (e .0) k ≡ true) ⊎ (eqb (e .0) k ≡ false) → (o .less k (e .0) ≡ true) ⊎ (o .less k (e .0) ≡ false) → put o k v es ≡ take (before o k es) es ++ ((k, v) ∷ drop (before o k es + hit k (drop (before o k es) es)) es)
-      → Goal (cond (o .less (e .0) k) (suc (before o k es)) 0) (cond (eqb (e .0) k) ((k, v) ∷ es) (cond (o .less k (e .0)) ((k, v) ∷ (e ∷ es)) (e ∷ put o k v es)))
+        → Goal (cond (o .less (e .0) k) (suc (before o k es)) 0) (cond (eqb (e .0) k) ((k, v) ∷ es) (cond (o .less k (e .0)) ((k, v) ∷ (e ∷ es)) (e ∷ put o k v es)))
     go (inl same) _ ih =
         let nl : o .less (e .0) k ≡ false = ap (λ x. o .less x k) (eqb-true (e .0) k same) ∙ t .apart k in
         let z : cond (o .less (e .0) k) (suc (before o k es)) 0 ≡ 0 = cond-false (o .less (e .0) k) (suc (before o k es)) 0 nl in
@@ -152,7 +152,7 @@ module _ (c : List ℕ) (len : length c ≡ 224) (few : count c ≤ 26) (all : A
 
   -- a key put in
   pub renew-put : (o : KeyOrdering) → TotalOrder o → (m k v i s : ℕ) → i ≡ before o k (entries c) → s ≡ hit k (drop (before o k (entries c)) (entries c))
-    → headOf m (count c + 1 - s) ++ (part 4 (8 * i) c ++ (entryBytes (k, v) ++ (part (4 + 8 * (i + s)) (8 * (count c - (i + s))) c ++ drop (4 + 8 * (count c + 1 - s)) c))) ≡ renew m (put o k v (entries c)) c
+      → headOf m (count c + 1 - s) ++ (part 4 (8 * i) c ++ (entryBytes (k, v) ++ (part (4 + 8 * (i + s)) (8 * (count c - (i + s))) c ++ drop (4 + 8 * (count c + 1 - s)) c))) ≡ renew m (put o k v (entries c)) c
   unfolding renew
   renew-put o t m k v i s ei es =
       let w = before-within o k (entries c) in
@@ -163,13 +163,13 @@ module _ (c : List ℕ) (len : length c ≡ 224) (few : count c ≤ 26) (all : A
       let same : i + s ≡ before o k (entries c) + hit k (drop (before o k (entries c)) (entries c)) = omega arith in
       let lay : put o k v (entries c) ≡ take i (entries c) ++ ((k, v) ∷ drop (i + s) (entries c)) = put-is o t k v (entries c) ∙ ap₂ (λ x y. take x (entries c) ++ ((k, v) ∷ drop y (entries c))) (sym ei) (sym same) in
       let body : entriesBytes (put o k v (entries c)) ≡ part 4 (8 * i) c ++ (entryBytes (k, v) ++ part (4 + 8 * (i + s)) (8 * (count c - (i + s))) c) =
-          ap entriesBytes lay ∙ entriesBytes-append (take i (entries c)) ((k, v) ∷ drop (i + s) (entries c)) ∙ ap₂ _++_ (bytes-front i (omega arith)) (ap (λ x. entryBytes (k, v) ++ x) (bytes-back (i + s) (8 * (count c - (i + s))) is refl)) in
+      ap entriesBytes lay ∙ entriesBytes-append (take i (entries c)) ((k, v) ∷ drop (i + s) (entries c)) ∙ ap₂ _++_ (bytes-front i (omega arith)) (ap (λ x. entryBytes (k, v) ++ x) (bytes-back (i + s) (8 * (count c - (i + s))) is refl)) in
       let none : 8 * (count c - (count c + 1 - s)) ≡ 0 = omega arith in
       let most : max (count c + 1 - s) (count c) ≡ count c + 1 - s = omega arith in
       sym (ap (λ n. headOf m n ++ (entriesBytes (put o k v (entries c)) ++ (replicate (8 * (count c - n)) 0 ++ drop (4 + 8 * max n (count c)) c))) bl
-        ∙ ap₂ (λ x y. headOf m (count c + 1 - s) ++ (entriesBytes (put o k v (entries c)) ++ (replicate x 0 ++ drop (4 + 8 * y) c))) none most
-        ∙ ap (λ x. headOf m (count c + 1 - s) ++ (x ++ drop (4 + 8 * (count c + 1 - s)) c)) body
-        ∙ ap (λ x. headOf m (count c + 1 - s) ++ x) (joined (part 4 (8 * i) c) (entryBytes (k, v)) (part (4 + 8 * (i + s)) (8 * (count c - (i + s))) c) (drop (4 + 8 * (count c + 1 - s)) c)))
+      ∙ ap₂ (λ x y. headOf m (count c + 1 - s) ++ (entriesBytes (put o k v (entries c)) ++ (replicate x 0 ++ drop (4 + 8 * y) c))) none most
+      ∙ ap (λ x. headOf m (count c + 1 - s) ++ (x ++ drop (4 + 8 * (count c + 1 - s)) c)) body
+      ∙ ap (λ x. headOf m (count c + 1 - s) ++ x) (joined (part 4 (8 * i) c) (entryBytes (k, v)) (part (4 + 8 * (i + s)) (8 * (count c - (i + s))) c) (drop (4 + 8 * (count c + 1 - s)) c)))
     where
       joined : (w x y z : List ℕ) → (w ++ (x ++ y)) ++ z ≡ w ++ (x ++ (y ++ z))
       joined w x y z = simp append-assoc
@@ -182,7 +182,7 @@ module _ (c : List ℕ) (len : length c ≡ 224) (few : count c ≤ 26) (all : A
       let lt : length (take 13 (entries c)) ≡ 13 = simp length-take (omega arith) in
       let body : entriesBytes (take 13 (entries c)) ≡ part 4 104 c = bytes-front 13 (omega arith) in
       sym (ap₂ (λ n k. headOf 1 n ++ (entriesBytes (take 13 (entries c)) ++ (replicate (8 * (k - n)) 0 ++ drop (4 + 8 * max n k) c))) lt full
-        ∙ ap (λ x. headOf 1 13 ++ (x ++ (replicate 104 0 ++ drop 212 c))) body)
+      ∙ ap (λ x. headOf 1 13 ++ (x ++ (replicate 104 0 ++ drop 212 c))) body)
 
   -- a root of two entries
   pub renew-plant : (x y : ℕ) → count c ≡ 26 → headOf 2 2 ++ (entryBytes (x, 1) ++ (entryBytes (y, 2) ++ (replicate 192 0 ++ drop 212 c))) ≡ renew 2 ((x, 1) ∷ ((y, 2) ∷ [])) c
@@ -193,7 +193,7 @@ module _ (c : List ℕ) (len : length c ≡ 224) (few : count c ≤ 26) (all : A
   unfolding renew blank
   renew-blank es bs l body =
       sym (ap (λ n. headOf 1 n ++ (entriesBytes es ++ (replicate (8 * (0 - n)) 0 ++ drop (4 + 8 * max n 0) (replicate 224 0)))) l
-        ∙ ap (λ x. headOf 1 13 ++ (x ++ replicate 116 0)) body)
+      ∙ ap (λ x. headOf 1 13 ++ (x ++ replicate 116 0)) body)
 
   pub renew-lower : count c ≡ 26 → headOf 1 13 ++ (part 4 104 c ++ replicate 116 0) ≡ renew 1 (take 13 (entries c)) blank
   renew-lower full =

@@ -62,16 +62,16 @@ pub parse-good : (b : List ℕ) (a : Step) → parse b ≡ Some a → Good a
 unfolding parse
 parse-good b a =
     cond-both (eqb (getD b 0 0) 1 && leb 2 (length b)) (insertOf (getD b 1 0) (drop 2 b)) _ (λ o. o ≡ Some a → Good a)
-      (λ _. when-by Good (leb (getD b 1 0) 26 && eqb (length (drop 2 b)) 8) (Insert (getD b 1 0) (number (part 0 4 (drop 2 b))) (number (part 4 4 (drop 2 b)))) a (λ h. small (getD b 1 0) (and-parts (leb (getD b 1 0) 26) (eqb (length (drop 2 b)) 8) h .0)))
+    (λ _. when-by Good (leb (getD b 1 0) 26 && eqb (length (drop 2 b)) 8) (Insert (getD b 1 0) (number (part 0 4 (drop 2 b))) (number (part 4 4 (drop 2 b)))) a (λ h. small (getD b 1 0) (and-parts (leb (getD b 1 0) 26) (eqb (length (drop 2 b)) 8) h .0)))
     (λ _. cond-both (eqb (getD b 0 0) 2 && eqb (length b) 3) (when (twoPages (getD b 1 0) (getD b 2 0)) (Lower (getD b 1 0) (getD b 2 0))) _ (λ o. o ≡ Some a → Good a)
-      (λ _. when-by Good (twoPages (getD b 1 0) (getD b 2 0)) (Lower (getD b 1 0) (getD b 2 0)) a (λ h. wide (getD b 1 0) (getD b 2 0) h))
+    (λ _. when-by Good (twoPages (getD b 1 0) (getD b 2 0)) (Lower (getD b 1 0) (getD b 2 0)) a (λ h. wide (getD b 1 0) (getD b 2 0) h))
     (λ _. cond-both (eqb (getD b 0 0) 3 && eqb (length b) 3) (when (twoPages (getD b 1 0) (getD b 2 0)) (Upper (getD b 1 0) (getD b 2 0))) _ (λ o. o ≡ Some a → Good a)
-      (λ _. when-by Good (twoPages (getD b 1 0) (getD b 2 0)) (Upper (getD b 1 0) (getD b 2 0)) a (λ h. wide (getD b 1 0) (getD b 2 0) h))
+    (λ _. when-by Good (twoPages (getD b 1 0) (getD b 2 0)) (Upper (getD b 1 0) (getD b 2 0)) a (λ h. wide (getD b 1 0) (getD b 2 0) h))
     (λ _. cond-both (eqb (getD b 0 0) 4 && eqb (length b) 3) (when (leb 1 (getD b 1 0) && twoPages (getD b 1 0) (getD b 2 0)) (Cut (getD b 1 0) (getD b 2 0))) _ (λ o. o ≡ Some a → Good a)
-      (λ _. when-by Good (leb 1 (getD b 1 0) && twoPages (getD b 1 0) (getD b 2 0)) (Cut (getD b 1 0) (getD b 2 0)) a (λ h. cuts (getD b 1 0) (getD b 2 0) h))
+    (λ _. when-by Good (leb 1 (getD b 1 0) && twoPages (getD b 1 0) (getD b 2 0)) (Cut (getD b 1 0) (getD b 2 0)) a (λ h. cuts (getD b 1 0) (getD b 2 0) h))
     (λ _. cond-both (eqb (getD b 0 0) 5 && eqb (length b) 1) (Some Grow) None (λ o. o ≡ Some a → Good a)
-      (λ _ e. let same : Grow ≡ a = cc in subst Good same tt)
-      (λ _ e. let z : _≡_ {A = ℕ} 0 1 = cc in absurd (omega arith))))))
+    (λ _ e. let same : Grow ≡ a = cc in subst Good same tt)
+    (λ _ e. let z : _≡_ {A = ℕ} 0 1 = cc in absurd (omega arith))))))
   where
     small : (p : ℕ) → leb p 26 ≡ true → p < 64
     small p h = omega (arith, leb-true p 26 h)

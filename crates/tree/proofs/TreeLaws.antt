@@ -65,10 +65,20 @@ length-bytes (e ∷ es) = let ih = length-bytes es in omega arith
 
 pub renew-bytes : (m : ℕ) (es : List Entry) (c : List ℕ) → m < 256 → length es < 256 → Bytes c → Bytes (renew m es c)
 unfolding renew
-renew-bytes m es c hm hl all =
-    (hm, (hl, (omega arith, (omega arith,
-      all-append (λ b. b < 256) (entriesBytes es) (replicate (8 * (count c - length es)) 0 ++ drop (4 + 8 * max (length es) (count c)) c) (bytes-entries es)
-        (all-append (λ b. b < 256) (replicate (8 * (count c - length es)) 0) (drop (4 + 8 * max (length es) (count c)) c) (bytes-zeros (8 * (count c - length es))) (all-drop (λ b. b < 256) (4 + 8 * max (length es) (count c)) c all))))))
+renew-bytes m es c hm hl all = (
+  hm,
+  (
+    hl,
+    (
+      omega arith,
+      (
+        omega arith,
+        all-append (λ b. b < 256) (entriesBytes es) (replicate (8 * (count c - length es)) 0 ++ drop (4 + 8 * max (length es) (count c)) c) (bytes-entries es)
+            (all-append (λ b. b < 256) (replicate (8 * (count c - length es)) 0) (drop (4 + 8 * max (length es) (count c)) c) (bytes-zeros (8 * (count c - length es))) (all-drop (λ b. b < 256) (4 + 8 * max (length es) (count c)) c all)),
+      ),
+    ),
+  ),
+)
 
 pub renew-length : (m : ℕ) (es : List Entry) (c : List ℕ) → length c ≡ 224 → count c ≤ 26 → length es ≤ 26 → length (renew m es c) ≡ 224
 unfolding renew
@@ -165,8 +175,8 @@ change-bytes o t (Cut p q) old new g all e =
     let pf = put-few o t (middleKey (drop 224 old)) q (take 224 old) in
     let h : length (take 13 (entries (drop 224 old))) < 256 = simp length-take (omega arith) in
     subst Bytes (b .1) (all-append (λ x. x < 256) (renew 2 (put o (middleKey (drop 224 old)) q (entries (take 224 old))) (take 224 old)) (renew 1 (take 13 (entries (drop 224 old))) (drop 224 old))
-      (renew-bytes 2 (put o (middleKey (drop 224 old)) q (entries (take 224 old))) (take 224 old) (omega arith) (omega arith) (all-take (λ x. x < 256) 224 old all))
-      (renew-bytes 1 (take 13 (entries (drop 224 old))) (drop 224 old) (omega arith) h (all-drop (λ x. x < 256) 224 old all)))
+    (renew-bytes 2 (put o (middleKey (drop 224 old)) q (entries (take 224 old))) (take 224 old) (omega arith) (omega arith) (all-take (λ x. x < 256) 224 old all))
+    (renew-bytes 1 (take 13 (entries (drop 224 old))) (drop 224 old) (omega arith) h (all-drop (λ x. x < 256) 224 old all)))
 change-bytes o t Grow old new g all e =
     let b = took (fullLeaf o old) (renew 2 ((o .least, 1) ∷ ((middleKey old, 2) ∷ [])) old) new 3 e in
     subst Bytes (b .1) (renew-bytes 2 ((o .least, 1) ∷ ((middleKey old, 2) ∷ [])) old (omega arith) (omega arith) all)
@@ -210,16 +220,16 @@ tree-reply-done o b old n s e h =
 
 pub tree-lawful : (o : KeyOrdering) → TotalOrder o → Lawful (treeMeaning o)
 tree-lawful o t = record {
-    limit-from = omega arith;
-    limit-to = omega arith;
-    scoped = λ b r w e. scoped′ (parse b) (parse-good b) r w e;
-    code-one = λ b c e. code (parse b) c e;
-    refused = λ b old c e. refused′ (parse b) old c e;
-    accepted = λ b old s e f. accepted′ (parse b) old s e f;
-    unsized = λ b old r w e h. unsized′ (parse b) old r w e h;
-    sized = λ b old new r w e f. sized′ (parse b) (parse-good b) old new r w e f;
-    bytes = λ b old new bs os f. bytes′ (parse b) (parse-good b) old new os f
-  }
+  limit-from = omega arith;
+  limit-to = omega arith;
+  scoped = λ b r w e. scoped′ (parse b) (parse-good b) r w e;
+  code-one = λ b c e. code (parse b) c e;
+  refused = λ b old c e. refused′ (parse b) old c e;
+  accepted = λ b old s e f. accepted′ (parse b) old s e f;
+  unsized = λ b old r w e h. unsized′ (parse b) old r w e h;
+  sized = λ b old new r w e f. sized′ (parse b) (parse-good b) old new r w e f;
+  bytes = λ b old new bs os f. bytes′ (parse b) (parse-good b) old new os f;
+}
   where
     scoped′ : (x : Option Step) → ((s : Step) → x ≡ Some s → Good s) → (r w : ℕ) → scopeBy x ≡ Ok (r, w) → Scoped 2 r w
     scoped′ (Some s) good r w e =

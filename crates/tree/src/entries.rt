@@ -5,7 +5,6 @@ ghost use Prim.Native.Nat.{_+_, _*_, _≤_};
 ghost use lib.ListN.{getD, drop};
 ghost use Rattle.sets.specs.Words.{number, part};
 ghost use Rattle.tree.specs.Nodes.{count as countOf, entries, entriesOf, find, absent as absentOf, rising as risingOf, fresh as freshOf, before as beforeOf};
-
 use crate::order::KeyOrder;
 use sets::contains;
 use sets::single;

@@ -2,7 +2,6 @@
 ghost use mathlib.Core.Path.{_≡_};
 ghost use Rattle.tree.specs.Nodes.{wellFormed, leafForm, fullLeaf, rootForm};
 ghost use Rattle.tree.specs.Steps.{cutForm};
-
 use crate::entries::absent;
 use crate::entries::byte;
 use crate::entries::count;

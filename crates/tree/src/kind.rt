@@ -1,6 +1,5 @@
 // The tree kind.
 ghost use Rattle.tree.specs.Steps.{treeMeaning};
-
 use crate::order::KeyOrder;
 use crate::step::Step;
 use kinds::Kind;

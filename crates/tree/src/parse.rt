@@ -4,7 +4,6 @@ ghost use Rattle.tree.specs.Steps.{insertOf, twoPages, when, parse as parseOf,
 ghost use Rattle.tree.specs.declared.step.Step.the-variants.{Lower as LowerStep, Upper as UpperStep, Cut as CutStep};
 ghost use mathlib.Core.Bool.{_&&_};
 ghost use lib.Dec.{leb};
-
 use crate::step::Step;
 use kinds::both;
 use kinds::only;
@@ -31,19 +30,31 @@ fn insert_of(page: u8, word: &[u8]) -> Option<Step>
     if page > LAST_PAGE || word.len() != 8 {
         return None;
     }
-    Some(Step::Insert { page, key: u32_at(word, 0), value: u32_at(word, 4) })
+    Some(Step::Insert {
+        page,
+        key: u32_at(word, 0),
+        value: u32_at(word, 4),
+    })
 }
 
 fn lower_of(from: u8, to: u8) -> Option<Step>
     ensures { λ r. ⌜ r ≡ when (twoPages from to) (LowerStep from to) ⌝ }
 {
-    if two_pages(from, to) { Some(Step::Lower { from, to }) } else { None }
+    if two_pages(from, to) {
+        Some(Step::Lower { from, to })
+    } else {
+        None
+    }
 }
 
 fn upper_of(from: u8, to: u8) -> Option<Step>
     ensures { λ r. ⌜ r ≡ when (twoPages from to) (UpperStep from to) ⌝ }
 {
-    if two_pages(from, to) { Some(Step::Upper { from, to }) } else { None }
+    if two_pages(from, to) {
+        Some(Step::Upper { from, to })
+    } else {
+        None
+    }
 }
 
 fn cut_of(leaf: u8, upper: u8) -> Option<Step>

@@ -6,7 +6,6 @@ ghost use lib.ListN.{length, take, drop};
 ghost use Rattle.kinds.specs.Kinds.{answer as answerOf, filled as filledBy};
 ghost use Rattle.tree.specs.Nodes.{count as countOf, entries, before as beforeOf, hit as hitOf, put as putOf, renew};
 ghost use Rattle.tree.specs.Steps.{inserted, lower as lowerOf, upper as upperOf, cut as cutOf, grow as growOf, change, Ready};
-
 use crate::entries::before;
 use crate::entries::count;
 use crate::entries::key_at;
@@ -22,6 +21,7 @@ use crate::write::shrink;
 use crate::write::splice;
 
 const CONTENTS: usize = 224;
+
 const HALF: usize = 13;
 
 // Whether entry i has the key: 1, or 0.

@@ -5,13 +5,14 @@ ghost use Prim.Native.Nat.{_+_, _-_, _*_, _≤_};
 ghost use lib.ListN.{length, take, drop, replicate};
 ghost use Rattle.sets.specs.Words.{part};
 ghost use Rattle.tree.specs.Nodes.{count as countOf, headOf, entryBytes};
-
 use crate::entries::count;
 
 const CONTENTS: usize = 224;
+
 const HALF: usize = 13;
 // Where the entries end, and where the lower half of them does.
 const END: usize = 212;
+
 const MIDDLE: usize = 108;
 
 // Writes bytes from place `at` on, behind what was written before.

@@ -6,7 +6,6 @@ use native.Mathlib.Omega.{arith}
 use Rattle.tree.specs.Nodes.{fresh, entries}
 use Rattle.tree.proofs.EntryLaws.{from, from-all, seen-none, seen-more, fresh-low, fresh-high, fresh-twice, fresh-go}
 use Rattle.tree.proofs.entries.fresh.Needs as need
-
 use Rattle.tree.proofs.entries.fresh.Needs.{then-value-eq0·by·then-value-eq0, then-value-eq0·by·else-value-eq0·then-value-n}
 
 pub loop-i-holds : need.loop-i-holds
@@ -17,11 +16,11 @@ loop-i-holds c =
 
 pub returns-then-value-eq0 : need.returns-then-value-eq0
 returns-then-value-eq0 c = elim (c .then-value-eq0 .came) [
-    then-value-eq0·by·then-value-eq0 w ↦ fresh-low (c .args .c .now) (c .count-n .result) (c .loop-i .i) (c .loop-i-test .taken) (has (c .loop-i .seen)) (c .value-at-value .result) (c .value-at-value .ensures) (w .if-value-eq0 .taken) ∙ c .loop-i .inv .1
+  | then-value-eq0·by·then-value-eq0 w ↦ fresh-low (c .args .c .now) (c .count-n .result) (c .loop-i .i) (c .loop-i-test .taken) (has (c .loop-i .seen)) (c .value-at-value .result) (c .value-at-value .ensures) (w .if-value-eq0 .taken) ∙ c .loop-i .inv .1
       ∙ ap (λ n. fresh n (λ _. false) (entries (c .args .c .now))) (c .count-n .ensures)
   | then-value-eq0·by·else-value-eq0·then-value-n w ↦ fresh-high (c .args .c .now) (c .count-n .result) (c .loop-i .i) (c .loop-i-test .taken) (has (c .loop-i .seen)) (c .value-at-value .result) (c .value-at-value .ensures) (w .if-value-n .taken) ∙ c .loop-i .inv .1
       ∙ ap (λ n. fresh n (λ _. false) (entries (c .args .c .now))) (c .count-n .ensures)
-  ]
+]
 
 pub returns-then-contains : need.returns-then-contains
 returns-then-contains c = fresh-twice (c .args .c .now) (c .count-n .result) (c .loop-i .i) (c .loop-i-test .taken) (has (c .loop-i .seen)) (c .value-at-value .result) (c .value-at-value .ensures) (sym (c .if-contains .ensures tt)) ∙ c .loop-i .inv .1

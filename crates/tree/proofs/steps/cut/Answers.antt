@@ -58,7 +58,7 @@ returns g c =
     let k : c .key-at .result ≡ middleKey (drop 224 old) = c .key-at .ensures ∙ ap middleKey leaf in
     let root : c .put .last .new ≡ renew 2 (put o (middleKey (drop 224 old)) q (entries (take 224 old))) (take 224 old) = c .put .ensures ∙ ap (λ x. renew 2 (put o x q (entries (take 224 old))) (take 224 old)) k in
     let low : c .shrink .last .new ≡ renew 1 (take 13 (entries (drop 224 old))) (drop 224 old) =
-        c .shrink .ensures ∙ ap (λ t. headOf 1 13 ++ (part 4 104 t ++ (replicate 104 0 ++ drop 212 t))) leaf ∙ renew-shrink (drop 224 old) ll few (all-drop (λ x. x < 256) 224 old every) (parts .0) in
+    c .shrink .ensures ∙ ap (λ t. headOf 1 13 ++ (part 4 104 t ++ (replicate 104 0 ++ drop 212 t))) leaf ∙ renew-shrink (drop 224 old) ll few (all-drop (λ x. x < 256) 224 old every) (parts .0) in
     let lx : length (c .put .last .new) ≡ 224 = c .put .kept .new ∙ length-take-le 224 new (omega arith) in
     let r : cut o q (take 224 old) (drop 224 old) ≡ Ok (renew 2 (put o (middleKey (drop 224 old)) q (entries (take 224 old))) (take 224 old) ++ renew 1 (take 13 (entries (drop 224 old))) (drop 224 old)) = cond-true (cutForm o q (take 224 old) (drop 224 old)) _ (Err 3) is in
     record { answer = ap answer (sym r); buffer = two-pages 224 new (c .put .last .new) (c .shrink .last .new) (c .pre .1 .0) lx ∙ ap₂ _++_ root low ∙ ap (λ x. filled x new) (sym r) }

@@ -29,5 +29,8 @@ returns g c =
     let x = c .least-key .result in
     let y = c .key-at .result in
     let r : grow o old ≡ Ok (renew 2 ((o .least, 1) ∷ ((middleKey old, 2) ∷ [])) old) = cond-true (fullLeaf o old) (Ok (renew 2 ((o .least, 1) ∷ ((middleKey old, 2) ∷ [])) old)) (Err 3) is in
-    record { answer = ap answer (sym r); buffer = c .plant .ensures ∙ renew-plant old (c .pre .0) few (all-from-getD (λ x. x < 256) old 0 (λ i l. c .typed .old i .fits)) x y full
-      ∙ ap₂ (λ a b. renew 2 ((a, 1) ∷ ((b, 2) ∷ [])) old) (c .least-key .ensures) (c .key-at .ensures) ∙ ap (λ x. filled x (c .args .new .now)) (sym r) }
+    record {
+      answer = ap answer (sym r);
+      buffer = c .plant .ensures ∙ renew-plant old (c .pre .0) few (all-from-getD (λ x. x < 256) old 0 (λ i l. c .typed .old i .fits)) x y full
+          ∙ ap₂ (λ a b. renew 2 ((a, 1) ∷ ((b, 2) ∷ [])) old) (c .least-key .ensures) (c .key-at .ensures) ∙ ap (λ x. filled x (c .args .new .now)) (sym r);
+    }

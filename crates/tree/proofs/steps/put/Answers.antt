@@ -42,4 +42,4 @@ returns g c =
     let h : c .hit-skip .result ≡ hit k (drop (before o k es) es) = c .hit-skip .ensures ∙ ap (λ i. hit k (drop i es)) i in
     c .splice .ensures
     ∙ renew-put (c .args .old .now) (c .pre .lengths .0) (c .pre .few .0) (all-from-getD (λ x. x < 256) (c .args .old .now) 0 (λ i l. c .typed .old i .fits))
-      o (g .O·KeyOrder·met .ordered) (c .args .mark) k (c .args .value) (c .before-i .result) (c .hit-skip .result) i h
+    o (g .O·KeyOrder·met .ordered) (c .args .mark) k (c .args .value) (c .before-i .result) (c .hit-skip .result) i h

@@ -24,8 +24,8 @@ returns-in-1 c = let t = take-rest (c .args .body .now) 3 in grind (arith, tells
 
 pub returns-in-rest : need.returns-in-rest
 returns-in-rest c = elim (c .in-rest .came) [
-    in-rest·by·then-body-lt3 w ↦ parse-none (c .args .body .now) (λ e l. grind (arith, tells)) (λ e l. grind (arith, tells)) (λ e l. grind (arith, tells)) (λ e l. grind (arith, tells))
+  | in-rest·by·then-body-lt3 w ↦ parse-none (c .args .body .now) (λ e l. grind (arith, tells)) (λ e l. grind (arith, tells)) (λ e l. grind (arith, tells)) (λ e l. grind (arith, tells))
   | in-rest·by·else-body-lt3·then-body-lt4·in-rest· w ↦ parse-none (c .args .body .now) (λ e l. grind (arith, tells)) (λ e l. grind (arith, tells)) (λ e l. grind (arith, tells)) (λ e l. grind (arith, tells))
   | in-rest·by·else-body-lt3·else-body-lt4·then-body-lt5·in-rest· w ↦ parse-none (c .args .body .now) (λ e l. grind (arith, tells)) (λ e l. grind (arith, tells)) (λ e l. grind (arith, tells)) (λ e l. grind (arith, tells))
   | in-rest·by·else-body-lt3·else-body-lt4·else-body-lt5·in-rest· w ↦ parse-none (c .args .body .now) (λ e l. grind (arith, tells)) (λ e l. grind (arith, tells)) (λ e l. grind (arith, tells)) (λ e l. grind (arith, tells))
-  ]
+]
