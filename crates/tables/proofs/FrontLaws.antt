@@ -1,15 +1,15 @@
 -- A table holds a list in the first n of its places.
 use Prim.Native.Nat.{ℕ, _+_, _-_, _≤_, _<_, min}
-use mathlib.Core.Path.{_≡_, refl, sym, ap, _∙_}
-use mathlib.Core.Bool.{Bool, true, false, cond}
+use mathlib.Core.Path.{_≡_, sym, ap, _∙_}
+use mathlib.Core.Bool.{true, false, cond}
 use mathlib.Core.List.{List, [], _∷_, _++_}
-use mathlib.Core.Logic.{_⊎_, inl, inr}
+use mathlib.Core.Logic.{inl, inr}
 use native.Mathlib.Nat.{zero-add}
 use native.Mathlib.Omega.{arith}
 use lib.Dec.{ltb}
 use lib.ListN.{length, getD, set, take, drop}
 use lib.Seq.{paste}
-use Rattle.std.proofs.shelf.Lists.{length-take, length-take-le, length-drop, getD-take, getD-past, take-more-set, drop-take, drop-all}
+use Rattle.std.proofs.shelf.Lists.{length-take-le, length-drop, getD-past, take-more-set, drop-take, drop-all}
 use Rattle.std.proofs.shelf.Edits.{take-paste}
 use Rattle.std.proofs.shelf.Tests.{lt-ltb, le-ltb, cond-true, cases-lt}
 

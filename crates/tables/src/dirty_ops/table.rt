@@ -23,19 +23,19 @@ impl DirtyOps {
         }
     }
 
-    // How many operations are listed.
-    pub fn len(&self) -> usize
-        ensures { λ r. ⌜ r ≡ length (dirty (now (self .entry))) ⌝ }
-    {
-        self.count
-    }
-
     // The listed operations.
     pub fn list(&self) -> &[Op]
         ensures { λ r. ⌜ now r ≡ dirty (now (self .entry)) ⌝ }
     {
         let n = self.count;
         &self.ops[0..n]
+    }
+
+    // How many operations are listed.
+    pub fn len(&self) -> usize
+        ensures { λ r. ⌜ r ≡ length (dirty (now (self .entry))) ⌝ }
+    {
+        self.list().len()
     }
 
     // Lists an operation behind the others; false, and it is not listed, where 128 are listed already.

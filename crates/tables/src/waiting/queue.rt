@@ -17,11 +17,19 @@ impl Waiting {
         }
     }
 
+    // The blocks that wait.
+    pub fn list(&self) -> &[[u8; 256]]
+        ensures { λ r. ⌜ now r ≡ waiting (now (self .entry)) ⌝ }
+    {
+        let n = self.count;
+        &self.blocks[0..n]
+    }
+
     // How many blocks wait.
     pub fn len(&self) -> usize
         ensures { λ r. ⌜ r ≡ length (waiting (now (self .entry))) ⌝ }
     {
-        self.count
+        self.list().len()
     }
 
     // Puts a block behind those that wait; false, and nothing is put, where sixteen wait already.
