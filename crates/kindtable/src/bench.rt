@@ -48,7 +48,9 @@ fn digest(bytes: &[u8]) -> u32 {
 
 impl Bench {
     pub fn new() -> Self {
-        Bench { contents: [0u8; 14336] }
+        Bench {
+            contents: [0u8; 14336],
+        }
     }
 
     // Runs one operation, and prints a line of it.
@@ -63,15 +65,27 @@ impl Bench {
             Ok(()) => {
                 scatter(&mut self.contents, writes, &new);
                 let d = digest(&new);
-                println!(rt, "{name}: reads {reads:016x} writes {writes:016x} digest {d:08x}")
+                println!(
+                    rt,
+                    "{name}: reads {reads:016x} writes {writes:016x} digest {d:08x}"
+                )
             }
-            Err(code) => println!(rt, "{name}: reads {reads:016x} writes {writes:016x} code {code}"),
+            Err(code) => println!(
+                rt,
+                "{name}: reads {reads:016x} writes {writes:016x} code {code}"
+            ),
         }
     }
 }
 
 // Gives an operation buffers of any lengths, and prints the code and whether the reply buffer was left.
-pub fn misfit<K: Kind>(rt: &LibcRuntime, name: &str, body: &[u8], old: usize, new: usize) -> io::Result<()> {
+pub fn misfit<K: Kind>(
+    rt: &LibcRuntime,
+    name: &str,
+    body: &[u8],
+    old: usize,
+    new: usize,
+) -> io::Result<()> {
     let old = vec![in rt.alloc(); 9u8; old]?;
     let mut reply = vec![in rt.alloc(); 7u8; new]?;
     let before = digest(&reply);

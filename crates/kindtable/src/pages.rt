@@ -62,7 +62,11 @@ fn orders(rt: &LibcRuntime) -> io::Result<()> {
 pub fn pairs(rt: &LibcRuntime) -> io::Result<()> {
     let mut b = Bench::new();
     b.run::<Both>(rt, "pair, fill 40", &[1, 2, 40, 5])?;
-    b.run::<Both>(rt, "pair, insert into leaf 0", &[2, 1, 0, 8, 0, 0, 0, 80, 0, 0, 0])?;
+    b.run::<Both>(
+        rt,
+        "pair, insert into leaf 0",
+        &[2, 1, 0, 8, 0, 0, 0, 80, 0, 0, 0],
+    )?;
     b.run::<Both>(rt, "pair, grow of a small leaf", &[2, 5])?;
     b.run::<Both>(rt, "pair, bad page body", &[1, 2, 64, 5])?;
     b.run::<Both>(rt, "pair, bad tree body", &[2, 5, 5])?;

@@ -17,7 +17,14 @@ fn insert_body(page: u8, key: u32, value: u32) -> [u8; 10] {
     [1, page, k0, k1, k2, k3, v0, v1, v2, v3]
 }
 
-fn insert(rt: &LibcRuntime, b: &mut Bench, name: &str, page: u8, key: u32, value: u32) -> io::Result<()> {
+fn insert(
+    rt: &LibcRuntime,
+    b: &mut Bench,
+    name: &str,
+    page: u8,
+    key: u32,
+    value: u32,
+) -> io::Result<()> {
     let body = insert_body(page, key, value);
     b.run::<Tree>(rt, name, &body)
 }
@@ -25,7 +32,14 @@ fn insert(rt: &LibcRuntime, b: &mut Bench, name: &str, page: u8, key: u32, value
 // Puts keys that rise by ten into a leaf.
 fn fill(rt: &LibcRuntime, b: &mut Bench, page: u8, first: u32, count: u32) -> io::Result<()> {
     for i in 0..count {
-        insert(rt, b, "insert", page, first.wrapping_add(i.wrapping_mul(10)), i)?;
+        insert(
+            rt,
+            b,
+            "insert",
+            page,
+            first.wrapping_add(i.wrapping_mul(10)),
+            i,
+        )?;
     }
     Ok(())
 }
@@ -78,6 +92,18 @@ fn refused(rt: &LibcRuntime, b: &mut Bench) -> io::Result<()> {
     b.run::<Tree>(rt, "cut of page 0", &[4, 0, 1])?;
     b.run::<Tree>(rt, "grow of two bytes", &[5, 0])?;
     b.run::<Tree>(rt, "lower half of an empty leaf", &[2, 0, 1])?;
-    misfit::<Tree>(rt, "insert into no leaf", &[1, 0, 1, 0, 0, 0, 1, 0, 0, 0], 224, 224)?;
-    misfit::<Tree>(rt, "insert, old of 223", &[1, 0, 1, 0, 0, 0, 1, 0, 0, 0], 223, 224)
+    misfit::<Tree>(
+        rt,
+        "insert into no leaf",
+        &[1, 0, 1, 0, 0, 0, 1, 0, 0, 0],
+        224,
+        224,
+    )?;
+    misfit::<Tree>(
+        rt,
+        "insert, old of 223",
+        &[1, 0, 1, 0, 0, 0, 1, 0, 0, 0],
+        223,
+        224,
+    )
 }

@@ -1,3 +1,4 @@
 pub mod WorkingLaws
 pub mod PerformLaws
 pub mod ReadingLaws
+pub mod RunLaws

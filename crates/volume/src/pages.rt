@@ -6,6 +6,7 @@ ghost use lib.ListN.{length};
 pub const IMAGES: usize = 16384;
 
 // 64 page images, one after another.
+#[derive(Drop)]
 pub struct WorkingPages {
     pub images: [u8; IMAGES],
     ghost sized: { length images ≡ 16384 },
