@@ -78,6 +78,21 @@ impl Bench {
     }
 }
 
+// A body with a name for it.
+#[derive(Clone, Copy)]
+pub struct Row<'a> {
+    pub name: &'a str,
+    pub body: &'a [u8],
+}
+
+// Runs the rows of a table in order.
+pub fn play<K: Kind>(rt: &LibcRuntime, b: &mut Bench, rows: &[Row]) -> io::Result<()> {
+    for row in rows {
+        b.run::<K>(rt, row.name, row.body)?;
+    }
+    Ok(())
+}
+
 // Gives an operation buffers of any lengths, and prints the code and whether the reply buffer was left.
 pub fn misfit<K: Kind>(
     rt: &LibcRuntime,

@@ -1,6 +1,8 @@
 // Bodies of the tree kind: a leaf is filled, split, and split again under its root.
 use crate::bench::Bench;
+use crate::bench::Row;
 use crate::bench::misfit;
+use crate::bench::play;
 use std::io;
 use tree::TreeKind;
 use tree::TreeOperations;
@@ -10,6 +12,32 @@ use tree::search;
 
 type Tree = TreeKind<Unsigned>;
 
+const FIRST_SPLIT: [Row<'static>; 4] = [
+    Row { name: "lower half of 0 into 1", body: &[2, 0, 1] },
+    Row { name: "upper half of 0 into 2", body: &[3, 0, 2] },
+    Row { name: "leaf 0 to a root", body: &[5] },
+    Row { name: "root to a root", body: &[5] },
+];
+
+const SECOND_SPLIT: [Row<'static>; 5] = [
+    Row { name: "cut of a small leaf", body: &[4, 1, 3] },
+    Row { name: "upper half of 2 into 3", body: &[3, 2, 3] },
+    Row { name: "cut with a page left out", body: &[4, 2, 4] },
+    Row { name: "cut of 2, with 3 in the root", body: &[4, 2, 3] },
+    Row { name: "cut of 2 again", body: &[4, 2, 4] },
+];
+
+const BAD: [Row<'static>; 8] = [
+    Row { name: "empty body", body: &[] },
+    Row { name: "insert of nine bytes", body: &[1, 0, 1, 0, 0, 0, 1, 0, 0] },
+    Row { name: "insert into page 27", body: &[1, 27, 1, 0, 0, 0, 1, 0, 0, 0] },
+    Row { name: "lower half into itself", body: &[2, 1, 1] },
+    Row { name: "lower half into page 0", body: &[2, 1, 0] },
+    Row { name: "cut of page 0", body: &[4, 0, 1] },
+    Row { name: "grow of two bytes", body: &[5, 0] },
+    Row { name: "lower half of an empty leaf", body: &[2, 0, 1] },
+];
+
 // The body that puts a key into a leaf.
 fn insert_body(page: u8, key: u32, value: u32) -> [u8; 10] {
     let [k0, k1, k2, k3] = key.to_le_bytes();
@@ -17,14 +45,7 @@ fn insert_body(page: u8, key: u32, value: u32) -> [u8; 10] {
     [1, page, k0, k1, k2, k3, v0, v1, v2, v3]
 }
 
-fn insert(
-    rt: &LibcRuntime,
-    b: &mut Bench,
-    name: &str,
-    page: u8,
-    key: u32,
-    value: u32,
-) -> io::Result<()> {
+fn insert(rt: &LibcRuntime, b: &mut Bench, name: &str, page: u8, key: u32, value: u32) -> io::Result<()> {
     let body = insert_body(page, key, value);
     b.run::<Tree>(rt, name, &body)
 }
@@ -32,14 +53,7 @@ fn insert(
 // Puts keys that rise by ten into a leaf.
 fn fill(rt: &LibcRuntime, b: &mut Bench, page: u8, first: u32, count: u32) -> io::Result<()> {
     for i in 0..count {
-        insert(
-            rt,
-            b,
-            "insert",
-            page,
-            first.wrapping_add(i.wrapping_mul(10)),
-            i,
-        )?;
+        insert(rt, b, "insert", page, first.wrapping_add(i.wrapping_mul(10)), i)?;
     }
     Ok(())
 }
@@ -67,43 +81,17 @@ pub fn table(rt: &LibcRuntime) -> io::Result<()> {
 
 // A full leaf 0 is split into leaves 1 and 2, and leaf 2 later into 2 and 3.
 fn split(rt: &LibcRuntime, b: &mut Bench) -> io::Result<()> {
-    b.run::<Tree>(rt, "lower half of 0 into 1", &[2, 0, 1])?;
-    b.run::<Tree>(rt, "upper half of 0 into 2", &[3, 0, 2])?;
-    b.run::<Tree>(rt, "leaf 0 to a root", &[5])?;
-    b.run::<Tree>(rt, "root to a root", &[5])?;
+    play::<Tree>(rt, b, &FIRST_SPLIT)?;
     find(rt, b, 1, 5)?;
     find(rt, b, 2, 340)?;
     fill(rt, b, 2, 1000, 13)?;
-    b.run::<Tree>(rt, "cut of a small leaf", &[4, 1, 3])?;
-    b.run::<Tree>(rt, "upper half of 2 into 3", &[3, 2, 3])?;
-    b.run::<Tree>(rt, "cut with a page left out", &[4, 2, 4])?;
-    b.run::<Tree>(rt, "cut of 2, with 3 in the root", &[4, 2, 3])?;
-    b.run::<Tree>(rt, "cut of 2 again", &[4, 2, 4])?;
+    play::<Tree>(rt, b, &SECOND_SPLIT)?;
     find(rt, b, 2, 1000)?;
     find(rt, b, 3, 1000)
 }
 
 fn refused(rt: &LibcRuntime, b: &mut Bench) -> io::Result<()> {
-    b.run::<Tree>(rt, "empty body", &[])?;
-    b.run::<Tree>(rt, "insert of nine bytes", &[1, 0, 1, 0, 0, 0, 1, 0, 0])?;
-    b.run::<Tree>(rt, "insert into page 27", &[1, 27, 1, 0, 0, 0, 1, 0, 0, 0])?;
-    b.run::<Tree>(rt, "lower half into itself", &[2, 1, 1])?;
-    b.run::<Tree>(rt, "lower half into page 0", &[2, 1, 0])?;
-    b.run::<Tree>(rt, "cut of page 0", &[4, 0, 1])?;
-    b.run::<Tree>(rt, "grow of two bytes", &[5, 0])?;
-    b.run::<Tree>(rt, "lower half of an empty leaf", &[2, 0, 1])?;
-    misfit::<Tree>(
-        rt,
-        "insert into no leaf",
-        &[1, 0, 1, 0, 0, 0, 1, 0, 0, 0],
-        224,
-        224,
-    )?;
-    misfit::<Tree>(
-        rt,
-        "insert, old of 223",
-        &[1, 0, 1, 0, 0, 0, 1, 0, 0, 0],
-        223,
-        224,
-    )
+    play::<Tree>(rt, b, &BAD)?;
+    misfit::<Tree>(rt, "insert into no leaf", &[1, 0, 1, 0, 0, 0, 1, 0, 0, 0], 224, 224)?;
+    misfit::<Tree>(rt, "insert, old of 223", &[1, 0, 1, 0, 0, 0, 1, 0, 0, 0], 223, 224)
 }
