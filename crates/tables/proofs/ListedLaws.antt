@@ -64,25 +64,32 @@ top : (ns : List ℕ) (m : ℕ) → (k : ℕ) × (folded higher (Some m) ns ≡ 
 top [] m = (m, refl, omega arith, tt, inl refl)
 top (n ∷ ns) m =
     let t = top ns (max m n) in
-    let le : max m n ≤ t .0 = t .2 in
-    (t .0, t .1, omega arith, (omega arith, t .3), elim (t .4) [
-      | inl is ↦ elim (cases-lt n m) [
-        | inl old ↦ inl (omega arith)
-        | inr new ↦ inr (0, omega arith, λ d. omega arith)
-      ]
-      | inr in′ ↦ inr (has-append-right (n ∷ []) ns (t .0) in′)
-    ])
+    let le : max m n ≤ t .0 = t .2 in (
+      t .0,
+      t .1,
+      omega arith,
+      (omega arith, t .3),
+      elim (t .4) [
+        | inl is ↦ elim (cases-lt n m) [
+          | inl old ↦ inl (omega arith)
+          | inr new ↦ inr (0, omega arith, λ d. omega arith)
+        ]
+        | inr in′ ↦ inr (has-append-right (n ∷ []) ns (t .0) in′)
+      ],
+    )
 
 -- the highest of some numbers is one of them, and none is higher
 pub highest-is : (ns : List ℕ) → Cases (folded higher None ns) (ns ≡ []) (λ m. Has ns m × All (λ n. n ≤ m) ns)
 highest-is [] = refl
 highest-is (n ∷ ns) =
     let t = top ns n in
-    subst (λ (r : Option ℕ). Cases r (n ∷ ns ≡ []) (λ m. Has (n ∷ ns) m × All (λ x. x ≤ m) (n ∷ ns))) (sym (t .1))
-    (elim (t .4) [
-      | inl is ↦ (0, omega arith, λ d. sym is)
-      | inr in′ ↦ has-append-right (n ∷ []) ns (t .0) in′
-    ], (t .2, t .3))
+    subst (λ (r : Option ℕ). Cases r (n ∷ ns ≡ []) (λ m. Has (n ∷ ns) m × All (λ x. x ≤ m) (n ∷ ns))) (sym (t .1)) (
+      elim (t .4) [
+        | inl is ↦ (0, omega arith, λ d. sym is)
+        | inr in′ ↦ has-append-right (n ∷ []) ns (t .0) in′
+      ],
+      (t .2, t .3),
+    )
 
 pub highest-at : (g a : ℕ) (ops : List Op) (r : Option ℕ) → r ≡ highest-in g a ops → Highest-in g a ops r
 highest-at g a ops r e =

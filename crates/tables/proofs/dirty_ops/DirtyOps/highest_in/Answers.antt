@@ -9,5 +9,5 @@ pub returns : need.returns
 returns c =
     let d = c .args .self .now in
     let e : c .highest .result ≡ highest-in (c .args .set) (c .args .from) (dirty d) =
-        c .highest .ensures ∙ ap (λ (xs : List Op). highest-in (c .args .set) (c .args .from) xs) (c .list-ops .ensures) in
+    c .highest .ensures ∙ ap (λ (xs : List Op). highest-in (c .args .set) (c .args .from) xs) (c .list-ops .ensures) in
     record { value = e; best = highest-at (c .args .set) (c .args .from) (dirty d) (c .highest .result) e }
