@@ -1,4 +1,4 @@
-// The dirty operations, by rising number: the first `count` of the 128 places.
+// The dirty operations, in the order in which they were listed: the first `count` of the 128 places.
 ghost use mathlib.Core.Path.{_≡_};
 ghost use Prim.Native.Nat.{_≤_};
 ghost use lib.ListN.{length};
