@@ -33,7 +33,7 @@ gathered set contents = joined contents (pages set)
 abbrev pub shareOf : ℕ → List ℕ → ℕ → List ℕ
 shareOf set new p = part (224 * count (has set) p) 224 new
 
--- the kind's effect on the contents of the pages read is the step's: each page written has the same share of both
+-- both have an effect on these contents, and it is the same: a written page's share of what the kind gives is what the step gives it
 pub record Same-effect (st : Step) (reads writes : ℕ) (contents : ℕ → List ℕ) : Type 0 where
   pub new : List ℕ
   pub value : ℕ → List ℕ
@@ -41,7 +41,7 @@ pub record Same-effect (st : Step) (reads writes : ℕ) (contents : ℕ → List
   pub step-gives : operation-of st .effect contents ≡ Some value
   pub shares : (q : ℕ) → has writes q ≡ true → shareOf writes new q ≡ value q
 
--- the kind accepts the step's body, with the step's pages, and its effect is the step's whatever the pages hold
+-- the kind accepts the step's body, it reads and writes the step's pages, and its effect is the step's on any pages of 224 bytes
 pub record Is-step (st : Step) : Type 0 where
   pub reads : ℕ
   pub writes : ℕ
