@@ -101,7 +101,7 @@ fn both_calls(rt: &LibcRuntime, shape: Shape, rounds: u32) -> io::Result<()>
     line(rt, "  before", rounds, start.elapsed(rt)?, pages)
 }
 
-pub fn measure(rt: &LibcRuntime, rounds: u32) -> io::Result<()>
+pub(crate) fn measure(rt: &LibcRuntime, rounds: u32) -> io::Result<()>
     requires { ⌜ 0 < rounds ⌝ }
 {
     println!(rt, "128 operations, all pages in one group")?;

@@ -26,7 +26,7 @@ pub fn count(c: &[u8]) -> usize
 }
 
 // The key of entry i.
-pub fn key_at(c: &[u8], i: usize) -> u32
+pub(crate) fn key_at(c: &[u8], i: usize) -> u32
     requires { ⌜ i ≤ 255 ⌝ }
     ensures { λ r. ⌜ r ≡ number (part (4 + 8 * i) 4 (now (c .entry))) ⌝ }
 {
@@ -34,7 +34,7 @@ pub fn key_at(c: &[u8], i: usize) -> u32
 }
 
 // The value of entry i.
-pub fn value_at(c: &[u8], i: usize) -> u32
+pub(crate) fn value_at(c: &[u8], i: usize) -> u32
     requires { ⌜ i ≤ 255 ⌝ }
     ensures { λ r. ⌜ r ≡ number (part (8 + 8 * i) 4 (now (c .entry))) ⌝ }
 {
@@ -94,7 +94,7 @@ pub fn rising<O: KeyOrder>(c: &[u8]) -> bool
 }
 
 // Whether the values of a page are the numbers 1 to its count, each once.
-pub fn fresh(c: &[u8]) -> bool
+pub(crate) fn fresh(c: &[u8]) -> bool
     requires { ⌜ countOf (now c) ≤ 26 ⌝ }
     ensures { λ r. ⌜ r ≡ freshOf (countOf (now (c .entry))) (λ _. false) (entries (now (c .entry))) ⌝ }
 {

@@ -44,7 +44,15 @@ fn place_entry(new: &mut [u8], at: usize, key: u32, value: u32)
 }
 
 // Writes a page with one entry put in before entry i, in place of the `skip` entries there.
-pub fn splice(new: &mut [u8], old: &[u8], mark: u8, i: usize, skip: usize, key: u32, value: u32)
+pub(crate) fn splice(
+    new: &mut [u8],
+    old: &[u8],
+    mark: u8,
+    i: usize,
+    skip: usize,
+    key: u32,
+    value: u32,
+)
     requires lengths { ⌜ length (now old) ≡ 224 ⌝ ∗ ⌜ length (now new) ≡ 224 ⌝ }
     requires within { ⌜ i + skip ≤ countOf (now old) ⌝ ∗ ⌜ skip ≤ 1 ⌝ ∗ ⌜ countOf (now old) + 1 ≤ 26 + skip ⌝ }
     ensures { λ _. ⌜ now (new .exit) ≡ headOf mark (countOf (now (old .entry)) + 1 - skip) ++ (part 4 (8 * i) (now (old .entry)) ++ (entryBytes (key, value) ++ (part (4 + 8 * (i + skip)) (8 * (countOf (now (old .entry)) - (i + skip))) (now (old .entry)) ++ drop (4 + 8 * (countOf (now (old .entry)) + 1 - skip)) (now (old .entry))))) ⌝ }
@@ -59,7 +67,7 @@ pub fn splice(new: &mut [u8], old: &[u8], mark: u8, i: usize, skip: usize, key: 
 }
 
 // Writes a fresh leaf of 13 entries from entry `from` on.
-pub fn halve(new: &mut [u8], old: &[u8], from: usize)
+pub(crate) fn halve(new: &mut [u8], old: &[u8], from: usize)
     requires { ⌜ length (now old) ≡ 224 ⌝ ∗ ⌜ length (now new) ≡ 224 ⌝ ∗ ⌜ from ≤ 13 ⌝ }
     ensures { λ _. ⌜ now (new .exit) ≡ headOf 1 13 ++ (part (4 + 8 * from) 104 (now (old .entry)) ++ replicate 116 0) ⌝ }
 {
@@ -70,7 +78,7 @@ pub fn halve(new: &mut [u8], old: &[u8], from: usize)
 }
 
 // Writes a leaf that keeps the lower half of its entries.
-pub fn shrink(new: &mut [u8], old: &[u8])
+pub(crate) fn shrink(new: &mut [u8], old: &[u8])
     requires { ⌜ length (now old) ≡ 224 ⌝ ∗ ⌜ length (now new) ≡ 224 ⌝ }
     ensures { λ _. ⌜ now (new .exit) ≡ headOf 1 13 ++ (part 4 104 (now (old .entry)) ++ (replicate 104 0 ++ drop 212 (now (old .entry)))) ⌝ }
 {
@@ -82,7 +90,7 @@ pub fn shrink(new: &mut [u8], old: &[u8])
 }
 
 // Writes a root of two entries over pages 1 and 2.
-pub fn plant(new: &mut [u8], old: &[u8], least: u32, middle: u32)
+pub(crate) fn plant(new: &mut [u8], old: &[u8], least: u32, middle: u32)
     requires { ⌜ length (now old) ≡ 224 ⌝ ∗ ⌜ length (now new) ≡ 224 ⌝ }
     ensures { λ _. ⌜ now (new .exit) ≡ headOf 2 2 ++ (entryBytes (least, 1) ++ (entryBytes (middle, 2) ++ (replicate 192 0 ++ drop 212 (now (old .entry))))) ⌝ }
 {

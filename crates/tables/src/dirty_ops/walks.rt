@@ -15,7 +15,7 @@ fn writes_into(o: Op, set: u64) -> bool
 }
 
 // Moves those of the first n operations that write no page of the set to the front, and says how many they are.
-pub fn keep(ops: &mut [Op; 128], n: usize, set: u64) -> usize
+pub(crate) fn keep(ops: &mut [Op; 128], n: usize, set: u64) -> usize
     requires { ⌜ n ≤ 128 ⌝ }
     ensures len { λ _. ⌜ length (now (ops .exit)) ≡ length (now (ops .entry)) ⌝ }
     ensures within { λ r. ⌜ r ≤ n ⌝ }
