@@ -1,4 +1,6 @@
 // The bench run of a volume on two memory chips, once on the journal store and once on the shadow store.
+#![tactic(auto)]
+
 mod chips;
 mod story;
 mod tell;

@@ -1,4 +1,6 @@
 // The write graph, computed from the dirty operations.
+#![tactic(auto)]
+
 mod arrows;
 mod closure;
 mod groups;

@@ -1,4 +1,6 @@
 // The groups of a small example, and, given a number of rounds, what the write graph of 128 operations costs to compute.
+#![tactic(auto)]
+
 mod cost;
 mod example;
 

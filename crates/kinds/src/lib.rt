@@ -1,4 +1,6 @@
 // Kinds of operation: what the body of an operation says, which pages it reads and writes, and what it writes.
+#![tactic(auto)]
+
 mod buffers;
 mod kind;
 mod op;

@@ -1,4 +1,6 @@
 // The blocks of the log: records of operations, and the header.
+#![tactic(auto)]
+
 mod header;
 mod record;
 mod zeros;

@@ -1,4 +1,6 @@
 // Block media: the memory medium with its fuse, and partitions.
+#![tactic(auto)]
+
 mod fate;
 mod fuse;
 mod medium;

@@ -1,4 +1,6 @@
 // Cuts the power at every block write of an install, on both stores, and looks at what is left.
+#![tactic(auto)]
+
 mod chip;
 mod report;
 mod survey;

@@ -1,4 +1,6 @@
 // The theory of redo recovery. The definitions and the theorems stand in specs/; each function here promises one of the theorems.
+#![tactic(auto)]
+
 ghost use Rattle.redo.specs.Situations.{SituationsShown};
 ghost use Rattle.redo.specs.Theorems.{NoGroupsClean, OneGroupFewer, GroupsPart, RedoRecovers, InstalledRecoverable, GroupInstalls, GroupExplains, NoCircle, SomeReady, HistoryFinite, GraphByOperations, RunKeeps, LossKeeps, TrimKeeps};
 

@@ -1,4 +1,6 @@
 // Sets of pages on u64, and numbers in bytes. Callers see members and bytes, never bits.
+#![tactic(auto)]
+
 mod pages;
 mod words;
 

@@ -1,4 +1,6 @@
 // Page stores: 64 images, installed all or none.
+#![tactic(auto)]
+
 mod blocks;
 mod journal;
 mod shadow;

@@ -1,4 +1,6 @@
 // Cuts the power at every block write of a volume's life, on both stores, and compares what a mount brings back with the book.
+#![tactic(auto)]
+
 mod book;
 mod chips;
 mod life;

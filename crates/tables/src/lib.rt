@@ -1,4 +1,6 @@
 // The two fixed tables of a volume: the log blocks that wait to be written, and the dirty operations.
+#![tactic(auto)]
+
 mod dirty_ops;
 mod waiting;
 

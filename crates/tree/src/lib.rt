@@ -1,4 +1,6 @@
 // The tree kind: a tree of one root over leaves, whose pages hold keys and values.
+#![tactic(auto)]
+
 mod entries;
 mod forms;
 mod kind;

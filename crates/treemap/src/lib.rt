@@ -1,6 +1,8 @@
 // The tree as a map: after any calls, cut anywhere by power failures, a lookup finds what the surviving puts put in. The
 // definitions and the theorems stand in specs/; each function here promises one of the theorems, for any order on keys. Some
 // ask for the least key: the root's first key is stored, so it has to be a key of four bytes.
+#![tactic(auto)]
+
 ghost use Rattle.treemap.specs.Laws.{BodiesSay, CutAnywhere, KindSteps, LastCounts, MapOfPuts, MiddleNew, PlansFormed, PutsAccepted, PutsRun, RefusedForRoom};
 
 use tree::KeyOrder;

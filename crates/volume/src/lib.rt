@@ -1,4 +1,6 @@
 // The volume: working pages and waiting records over a log and a page store, down or up.
+#![tactic(auto)]
+
 mod assembly;
 mod down;
 mod ends;
