@@ -1,5 +1,6 @@
 -- What each fault reports: its number, its place and its code. Every promise of a refusal speaks through `report`.
-use Rattle.std.specs.Prelude.{ℕ, List, ◌++◌, Some, None, Ok, Err, codes, decimal, Option, Result}
+use Rattle.std.specs.Prelude.{ℕ, Bool, ◌&&◌, ◌==◌, nat_eq, List, ◌++◌, Some, None, Ok, Err, codes, decimal, Option, Result}
+use Rattle.std.specs.Cmp.{IsPartialEquivalence, partial_equiv_from_equiv, nat_eq_equiv, on_per, and_per}
 use Rattle.faults.specs.declared.fault.Fault.{Fault}
 use Rattle.faults.specs.declared.fault.Fault.TheVariants.{NoSuchPage, NoSuchBlock, WrongLength, PowerLost, BodyRefused, WaitingFull, LogFull, NumbersSpent, PagesRefused, PageClean, GroupBefore, RecordWaiting, BadHeader, TooShort, BadRecord, SetsDiffer, PartlyInstalled, NumberAhead, RedoRefused, RootFull, NotFilePage, NotTreePage}
 
@@ -35,6 +36,16 @@ report (RedoRefused number code) = reported 19 number code
 report RootFull = reported 20 26 0
 report (NotFilePage page) = reported 21 page 0
 report (NotTreePage page) = reported 22 page 0
+
+-- the test whether two reports agree in all three
+abbrev pub same_report : Report → Report → Bool
+same_report r s = (r.number == s.number) && ((r.place == s.place) && (r.code == s.code))
+
+-- it goes both ways round, and along a chain
+pub same_report_laws : IsPartialEquivalence (λ f g. same_report (report f) (report g))
+same_report_laws =
+    let same : IsPartialEquivalence nat_eq = partial_equiv_from_equiv nat_eq_equiv in
+    on_per report (and_per (on_per (λ (r : Report). r.number) same) (and_per (on_per (λ (r : Report). r.place) same) (on_per (λ (r : Report). r.code) same)))
 
 -- what a call reports: nothing where it passes
 abbrev pub refusal : {T : Type 0} → Result T Fault → Option Report

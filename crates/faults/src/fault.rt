@@ -1,8 +1,6 @@
 // Every way in which a call of the engine can be turned down.
-ghost use Rattle.std.specs.Prelude.{◌≡◌, Some, Decides};
-ghost use Rattle.faults.specs.Faults.{report, text};
-ghost use Rattle.std.specs.Cmp.Rules.{comparing};
-ghost use Rattle.std.proofs.Common.{rules};
+ghost use Rattle.std.specs.Prelude.{◌≡◌, ◌↔◌, IsTrue, Some};
+ghost use Rattle.faults.specs.Faults.{report, same_report, same_report_laws, text};
 
 use std::fmt;
 
@@ -129,11 +127,14 @@ impl Fault {
 
 // Two faults are equal where they report the same.
 impl PartialEq for Fault {
-    ghost equals = { λ f g r. Decides r (report f ≡ report g) };
+    ghost eq = { λ f g. same_report (report f) (report g) };
 
-    ghost laws = { Prim.search (comparing, rules) };
+    ghost laws = { same_report_laws };
 
-    fn eq(&self, other: &Fault) -> bool {
+    fn eq(&self, other: &Fault) -> bool
+        ensures tests { result ≡ same_report (report self.now) (report other.now) }
+        ensures equal { IsTrue result ↔ (report self.now ≡ report other.now) }
+    {
         self.number() == other.number()
             && self.place() == other.place()
             && self.code() == other.code()

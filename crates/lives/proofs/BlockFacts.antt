@@ -7,8 +7,8 @@ use Rattle.sets.proofs.WordLaws.{bytes-length, number-bytes}
 use Rattle.faults.specs.declared.fault.Fault.TheVariants.{SetsDiffer}
 use Rattle.faults.specs.Faults.{report}
 use Rattle.kinds.specs.Kinds.{Meaning, Lawful, Scoped}
-use Rattle.log.specs.Blocks.{Entry, zeros, same, block_of, is_record_block, entry_of, record_in, header_of, is_header_block, header_in}
-use Rattle.log.proofs.BlockLaws.{zeros-replicate, write-back}
+use Rattle.logblocks.specs.Blocks.{Entry, zeros, same, block_of, is_record_block, entry_of, record_in, header_of, is_header_block, header_in}
+use Rattle.logblocks.proofs.BlockLaws.{zeros-replicate, write-back}
 use Rattle.volume.specs.Working.{number_of}
 use Rattle.volume.specs.LogReading.{record_fault, entry_fault, sets_fault}
 use Rattle.lives.proofs.Keeping.{Sound, entry_by}

@@ -20,7 +20,7 @@ use Rattle.lives.proofs.StoreFacts.{install_live}
 use Rattle.stores.specs.Stores.State.{Live, Dead, Short}
 use Rattle.stores.specs.Stores.Ending.{Passes, FailsOld, FailsNew}
 use Rattle.kinds.specs.Kinds.{Meaning}
-use Rattle.log.specs.Blocks.{header_of}
+use Rattle.logblocks.specs.Blocks.{header_of}
 use Rattle.redo.specs.Histories.{writes, image}
 use Rattle.redo.proofs.HistoryLaws.{image-still}
 use Rattle.volume.specs.Working.{number_of, taken}

@@ -4,7 +4,7 @@ use Rattle.media.specs.Media.{Device, block_count, block_at}
 use Rattle.stores.specs.Stores.{is_short}
 use Rattle.stores.specs.Stores.State.{Live}
 use Rattle.kinds.specs.Kinds.{Meaning}
-use Rattle.log.specs.Blocks.{Entry, block_of, header_of}
+use Rattle.logblocks.specs.Blocks.{Entry, block_of, header_of}
 use Rattle.redo.specs.Histories.{after, Ran}
 use Rattle.redo.specs.Prefixes.{Installed}
 use Rattle.graph.specs.Listing.{Lists}

@@ -10,7 +10,7 @@ use Rattle.media.specs.Media.{Device, block_count, block_at, powered}
 use Rattle.stores.specs.Stores.{State, is_short, powered as revived, revived as revive}
 use Rattle.stores.specs.Stores.State.{Live, Dead, Short}
 use Rattle.kinds.specs.Kinds.{Meaning, Lawful}
-use Rattle.log.specs.Blocks.{Entry, block_of, header_in}
+use Rattle.logblocks.specs.Blocks.{Entry, block_of, header_in}
 use Rattle.redo.specs.Histories.{Page, History, reads, writes, after, Ran}
 use Rattle.redo.specs.Prefixes.{uninstalled, Installed}
 use Rattle.redo.specs.Installation.{trimmed}

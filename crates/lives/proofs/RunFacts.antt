@@ -11,7 +11,7 @@ use Rattle.sets.proofs.WordLaws.{bytes-length, number-bytes}
 use Rattle.faults.specs.declared.fault.Fault.TheVariants.{WrongLength, WaitingFull, LogFull, NumbersSpent}
 use Rattle.faults.specs.Faults.{Report, report}
 use Rattle.kinds.specs.Kinds.{Meaning, Lawful, Scoped}
-use Rattle.log.specs.Blocks.{block_of}
+use Rattle.logblocks.specs.Blocks.{block_of}
 use Rattle.redo.specs.Histories.{Page, Operation, History, writes, contents_of, effect_on, run, after, WellFormed, Ran}
 use Rattle.redo.specs.Prefixes.{uninstalled, Installed}
 use Rattle.redo.specs.Installation.{extended}

@@ -7,7 +7,7 @@ use Rattle.faults.specs.Faults.{Report, report}
 use Rattle.media.specs.Media.{Device, block_count, block_at, lands, Wrote}
 use Rattle.media.proofs.PlanLaws.{passed}
 use Rattle.kinds.specs.Kinds.{Meaning}
-use Rattle.log.specs.Blocks.{header_of}
+use Rattle.logblocks.specs.Blocks.{header_of}
 use Rattle.redo.specs.Histories.{History}
 use Rattle.redo.specs.Prefixes.{uninstalled}
 use Rattle.redo.proofs.InstallLaws.{uninstalled-parts, uninstalled-from}

@@ -9,7 +9,7 @@ use Rattle.media.specs.Plans.{Write, Ran, done}
 use Rattle.media.proofs.PlanLaws.{ran_append, ran-cut, ran-one}
 use Rattle.stores.specs.Images.{blank}
 use Rattle.stores.specs.Stores.{Store, Installed, powered as revived}
-use Rattle.log.specs.Blocks.{header_of}
+use Rattle.logblocks.specs.Blocks.{header_of}
 use Rattle.volume.specs.Volumes.{Ends}
 use Rattle.volume.specs.Formatting.{blanks, all_pages, blank_images, Begun, blanking, installing, heading}
 

@@ -9,7 +9,7 @@ use Rattle.faults.specs.declared.fault.Fault.TheVariants.{TooShort, NumberAhead}
 use Rattle.faults.specs.Faults.{Report, report}
 use Rattle.media.specs.Media.{Device, block_at, check}
 use Rattle.kinds.specs.Kinds.{Meaning, Lawful}
-use Rattle.log.specs.Blocks.{header_in}
+use Rattle.logblocks.specs.Blocks.{header_in}
 use Rattle.redo.specs.Histories.{Page, History, writes, image, run, WellFormed, Ran}
 use Rattle.redo.specs.Prefixes.{uninstalled, Recoverable}
 use Rattle.redo.specs.Recovery.{missing, redo}

@@ -6,7 +6,7 @@ use Rattle.faults.specs.Faults.{Report, report}
 use Rattle.media.specs.Media.{Device, block_at, powered}
 use Rattle.stores.specs.Stores.{Store, State, Live, Dead, Short, powered as revived}
 use Rattle.kinds.specs.Kinds.{Meaning}
-use Rattle.log.specs.Blocks.{header_in}
+use Rattle.logblocks.specs.Blocks.{header_in}
 use Rattle.tables.specs.declared.dirty_ops.DirtyOps.{DirtyOps}
 use Rattle.tables.specs.DirtyOps.{dirty}
 use Rattle.volume.specs.declared.pages.WorkingPages.{WorkingPages}

@@ -6,7 +6,7 @@ use Rattle.faults.specs.declared.fault.Fault.TheVariants.{NumberAhead, PartlyIns
 use Rattle.faults.specs.Faults.{Report, report}
 use Rattle.media.specs.Media.{Device, check}
 use Rattle.kinds.specs.Kinds.{Meaning}
-use Rattle.log.specs.Blocks.{Entry, entry_of, is_record_block, record_in}
+use Rattle.logblocks.specs.Blocks.{Entry, entry_of, is_record_block, record_in}
 use Rattle.graph.specs.declared.op.Op.{Op}
 use Rattle.redo.specs.Recovery.{every}
 use Rattle.redo.proofs.TestLaws.{every-from, every-at}

@@ -11,7 +11,7 @@ use Rattle.faults.specs.declared.fault.Fault.TheVariants.{SetsDiffer, PartlyInst
 use Rattle.faults.specs.Faults.{Report, report}
 use Rattle.media.specs.Media.{Device}
 use Rattle.kinds.specs.Kinds.{Meaning, Lawful}
-use Rattle.log.specs.Blocks.{Entry, entry_of, is_record_block}
+use Rattle.logblocks.specs.Blocks.{Entry, entry_of, is_record_block}
 use Rattle.redo.specs.Histories.{Page, Operation, History, reads, writes, contents_of, effect_on, run, Ran}
 use Rattle.redo.specs.Prefixes.{uninstalled, Recoverable}
 use Rattle.redo.specs.Recovery.{every, present, missing, redo}

@@ -3,7 +3,7 @@ use Rattle.std.proofs.Common.{◌≡◌, ℕ, zero, suc, ◌+◌, ◌*◌, ◌�
 use Rattle.std.proofs.lemmas.Bool.{ne_eqb}
 use Rattle.faults.specs.Faults.{Report}
 use Rattle.media.specs.Media.{Device, Wrote}
-use Rattle.log.specs.Blocks.{header_of}
+use Rattle.logblocks.specs.Blocks.{header_of}
 use Rattle.volume.specs.Volumes.{Volume, noted}
 use Rattle.volume.specs.Forcing.{ByStatus, Trimmed, TrimmedWell, trimmed_to, with_header}
 

@@ -3,7 +3,7 @@ use Rattle.std.specs.Prelude.{◌≡◌, ℕ, ◌-◌, cond, not, List, [], ◌�
 use Rattle.faults.specs.Faults.{Report}
 use Rattle.media.specs.declared.fate.Fate.{Fate}
 use Rattle.media.specs.Media.{Device, WroteBy, Wrote}
-use Rattle.log.specs.Blocks.{header_of}
+use Rattle.logblocks.specs.Blocks.{header_of}
 use Rattle.tables.specs.DirtyOps.{first_number}
 use Rattle.volume.specs.Working.{number_of}
 use Rattle.volume.specs.LogReading.{place_of}

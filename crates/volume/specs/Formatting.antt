@@ -7,7 +7,7 @@ use Rattle.media.specs.Media.{Device, block_count, Wrote, check, powered}
 use Rattle.media.specs.Plans.{Write, Ran}
 use Rattle.stores.specs.Images.{blank}
 use Rattle.stores.specs.Stores.{Store, Installed, is_short, powered as revived}
-use Rattle.log.specs.Blocks.{header_of}
+use Rattle.logblocks.specs.Blocks.{header_of}
 use Rattle.volume.specs.Volumes.{Ends}
 
 -- the log needs 129 blocks, and the store must not be short

@@ -5,7 +5,7 @@ use Rattle.faults.specs.declared.fault.Fault.TheVariants.{BadRecord, SetsDiffer}
 use Rattle.faults.specs.Faults.{Report, report}
 use Rattle.media.specs.Media.{Device, block_at}
 use Rattle.kinds.specs.Kinds.{Meaning}
-use Rattle.log.specs.Blocks.{Entry, record_in}
+use Rattle.logblocks.specs.Blocks.{Entry, record_in}
 
 -- record n lies in block 1 + (n mod 128)
 abbrev pub place_of : ℕ → ℕ

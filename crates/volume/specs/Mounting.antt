@@ -7,7 +7,7 @@ use Rattle.media.specs.Media.{Device, block_at, check, powered}
 use Rattle.stores.specs.Images.{blank}
 use Rattle.stores.specs.Stores.{Store, powered as revived}
 use Rattle.kinds.specs.Kinds.{Meaning}
-use Rattle.log.specs.Blocks.{Entry, entry_of, header_in}
+use Rattle.logblocks.specs.Blocks.{Entry, entry_of, header_in}
 use Rattle.graph.specs.declared.op.Op.{Op}
 use Rattle.redo.specs.Recovery.{every}
 use Rattle.volume.specs.Working.{image_at, number_of, taken, written}

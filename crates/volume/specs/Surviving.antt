@@ -5,7 +5,7 @@ use Rattle.sets.specs.Sets.{has, pages, rising}
 use Rattle.media.specs.Media.{Device, block_at}
 use Rattle.stores.specs.Stores.{Store}
 use Rattle.kinds.specs.Kinds.{Meaning}
-use Rattle.log.specs.Blocks.{Entry, entry_of, header_in}
+use Rattle.logblocks.specs.Blocks.{Entry, entry_of, header_in}
 use Rattle.redo.specs.Histories.{Page, Operation, History, after, Ran}
 use Rattle.redo.specs.Prefixes.{uninstalled, Recoverable}
 use Rattle.graph.specs.declared.op.Op.{Op}

@@ -5,7 +5,7 @@ use Rattle.faults.specs.Faults.{Report, report}
 use Rattle.media.specs.Media.{Device, check}
 use Rattle.stores.specs.Stores.{Store}
 use Rattle.kinds.specs.Kinds.{Meaning}
-use Rattle.log.specs.Blocks.{Entry, block_of}
+use Rattle.logblocks.specs.Blocks.{Entry, block_of}
 use Rattle.graph.specs.declared.op.Op.{Op}
 use Rattle.graph.specs.Ops.{dirty_ops, Pages}
 use Rattle.redo.specs.WriteGraph.{Dirty, SameGroup, DirectlyBefore}

@@ -3,14 +3,14 @@ ghost use Rattle.std.specs.Prelude.{◌≡◌, ℕ, ◌<◌, ◌≤◌, false};
 ghost use Rattle.faults.specs.Faults.{refusal};
 ghost use Rattle.media.specs.Media.{block_count, block_at, powered};
 ghost use Rattle.stores.specs.Stores.{is_short, powered as revived};
-ghost use Rattle.log.specs.Blocks.{header_in};
+ghost use Rattle.logblocks.specs.Blocks.{header_in};
 ghost use Rattle.volume.specs.Working.{image_at, taken};
 ghost use Rattle.volume.specs.Formatting.{too_short};
 ghost use Rattle.volume.specs.Mounting.{ahead_fault};
 
 use crate::pages::WorkingPages;
 use faults::Fault;
-use log::read_header;
+use logblocks::read_header;
 use media::{BLOCK, Medium};
 use stores::PageStore;
 

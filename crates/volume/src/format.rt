@@ -11,7 +11,7 @@ use crate::ends::{LOG_BLOCKS, too_short};
 use crate::pages::WorkingPages;
 use faults::Fault;
 use kinds::Kind;
-use log::header_block;
+use logblocks::header_block;
 use media::{BLOCK, Medium};
 use stores::PageStore;
 

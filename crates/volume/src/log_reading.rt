@@ -6,7 +6,7 @@ ghost use Rattle.volume.specs.LogReading.{place_of, record_block, bears, end_of,
 
 use faults::Fault;
 use kinds::Kind;
-use log::Record;
+use logblocks::Record;
 use media::{BLOCK, Medium};
 use sets::u32_at;
 

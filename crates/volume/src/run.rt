@@ -1,7 +1,7 @@
 // Run: one more operation.
 ghost use Rattle.std.specs.Prelude.{◌≡◌, ◌<◌, ◌≤◌, length, IfOk, Ok, OnOk};
 ghost use Rattle.faults.specs.Faults.{refusal};
-ghost use Rattle.log.specs.Blocks.{block_of};
+ghost use Rattle.logblocks.specs.Blocks.{block_of};
 ghost use Rattle.volume.specs.Models.{up_model};
 ghost use Rattle.volume.specs.Working.{image_at};
 ghost use Rattle.volume.specs.Performing.{outcome};
@@ -13,7 +13,7 @@ use crate::up::Up;
 use faults::Fault;
 use graph::Op;
 use kinds::Kind;
-use log::Record;
+use logblocks::Record;
 use media::Medium;
 use stores::PageStore;
 

@@ -8,7 +8,7 @@ use crate::status::Status;
 use crate::up::Up;
 use faults::Fault;
 use kinds::Kind;
-use log::header_block;
+use logblocks::header_block;
 use media::Medium;
 use stores::PageStore;
 

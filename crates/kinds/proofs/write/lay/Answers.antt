@@ -4,4 +4,4 @@ use Rattle.kinds.proofs.BufferLaws.{lay-is}
 use Rattle.kinds.proofs.write.lay.Goals as goal
 
 pub returns : goal.returns
-returns c = lay-is c.args.offset _ c.args.old.now c.copy-from-slice.new.self c.args.bytes.now c.copy-from-slice-2.new.self refl c.copy-from-slice.ensures.after c.copy-from-slice-2.ensures.after
+returns c = lay-is c.args.offset _ c.args.old.now c.copy_from_slice.new.self c.args.bytes.now c.copy_from_slice-2.new.self refl c.copy_from_slice.ensures.after c.copy_from_slice-2.ensures.after

@@ -9,5 +9,5 @@ returns c =
     let b = c.args.block in
     let k : b * 256 + 256 - b * 256 ≡ 256 = omega arith in
     let at : b * 256 ≡ 256 * b = omega arith in
-    c.copy-from-slice.ensures.after ∙ ap (λ n. take n (drop (b * 256) bs)) k ∙ ap (λ a. take 256 (drop a bs)) at
+    c.copy_from_slice.ensures.after ∙ ap (λ n. take n (drop (b * 256) bs)) k ∙ ap (λ a. take 256 (drop a bs)) at
     ∙ sym (get_d_chunks (fitting bs) bs b c.requires.fits)

@@ -3,4 +3,4 @@ use Rattle.tree.proofs.FrontLaws.{placed}
 use Rattle.tree.proofs.write.place.Goals as goal
 
 pub returns : goal.returns
-returns c = placed c.args.at _ c.args.new.now c.args.bytes.now c.copy-from-slice.new.self refl c.copy-from-slice.ensures.after (omega arith)
+returns c = placed c.args.at _ c.args.new.now c.args.bytes.now c.copy_from_slice.new.self refl c.copy_from_slice.ensures.after (omega arith)

@@ -1,7 +1,7 @@
 use Rattle.std.proofs.Common.{◌≡◌, ◌<◌, ◌&&◌, eqb, ltb, length, replicate, refl, ap, ◌∙◌, arith}
 use Rattle.std.proofs.lemmas.Bool.{cond-true, and_from, lt-ltb}
 use Rattle.media.specs.Media.{block_count, block_at}
-use Rattle.log.specs.Blocks.{header_in}
+use Rattle.logblocks.specs.Blocks.{header_in}
 use Rattle.volume.proofs.ends.first_number.Goals as goal
 
 pub returns : goal.returns

@@ -1,5 +1,5 @@
 use Rattle.std.proofs.Common.{◌≡◌, sym, ap, ◌∙◌}
-use Rattle.log.specs.Views.{view}
+use Rattle.logblocks.specs.Views.{view}
 use Rattle.volume.specs.Mounting.{record_redone}
 use Rattle.volume.specs.Recovering.{redone_in}
 use Rattle.volume.proofs.RecoverLaws.{entry_read, not-installed}

@@ -12,11 +12,11 @@ returns c =
     let at = c.args.at in
     let t = c.if-not-contains.ensures in
     let x = contents_in (image_at images c.args.page) in
-    let same = c.copy-from-slice.ensures.after ∙ contents-part images c.args.page in
+    let same = c.copy_from_slice.ensures.after ∙ contents-part images c.args.page in
     record {
       next = ap (λ b. at + 224 * cond b 1 0) t;
       front =
-          lifted at old (take at old) c.copy-from-slice.new.self (c.requires.room (sym t))
+          lifted at old (take at old) c.copy_from_slice.new.self (c.requires.room (sym t))
           (ap length same ∙ contents-length images c.args.page c.args.self.now.sized c.requires.page) refl
           ∙ ap (λ y. take at old ++ y) (same ∙ sym (cond-true (has c.args.set c.args.page) x [] (sym t)));
     }

@@ -5,11 +5,11 @@ use Rattle.volume.proofs.pages.WorkingPages.set_image.Goals as goal
 
 pub invariant-of-self : goal.invariant-of-self
 invariant-of-self c =
-    let same = c.copy-from-slice.ensures.after in
-    (put-length c.args.self.now.images c.copy-from-slice.new.self c.args.page c.args.self.now.sized c.requires.page (ap length same ∙ c.requires.long), tt)
+    let same = c.copy_from_slice.ensures.after in
+    (put-length c.args.self.now.images c.copy_from_slice.new.self c.args.page c.args.self.now.sized c.requires.page (ap length same ∙ c.requires.long), tt)
 
 pub returns : goal.returns
 returns c = λ q.
-    let same = c.copy-from-slice.ensures.after in
-    put-image c.args.self.now.images c.copy-from-slice.new.self c.args.page c.args.self.now.sized c.requires.page (ap length same ∙ c.requires.long) q
+    let same = c.copy_from_slice.ensures.after in
+    put-image c.args.self.now.images c.copy_from_slice.new.self c.args.page c.args.self.now.sized c.requires.page (ap length same ∙ c.requires.long) q
     ∙ ap (λ x. cond (eqb q c.args.page) x (image_at c.args.self.now.images q)) same

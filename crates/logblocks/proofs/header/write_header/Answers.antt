@@ -1,6 +1,6 @@
 use Rattle.std.proofs.Common.{rules}
-use Rattle.log.specs.Blocks.{header_of}
-use Rattle.log.proofs.header.write_header.Goals as goal
+use Rattle.logblocks.specs.Blocks.{header_of}
+use Rattle.logblocks.proofs.header.write_header.Goals as goal
 
 pub returns : goal.returns
 unfolding header_of

@@ -7,7 +7,7 @@ use Rattle.std.proofs.lemmas.List.{append_assoc, append-nil, length-take, length
 use Rattle.std.proofs.lemmas.Bool.{and_parts, and_from, eqb-true, eq-eqb, leb-true, le-leb, not-true, not_from_false, eqb-false, ne_eqb, cond-true, cond-false, cases_Bool}
 use Rattle.sets.specs.Words.{number, bytes_of, part, over}
 use Rattle.sets.proofs.WordLaws.{bytes-length, number-bytes, bytes-number}
-use Rattle.log.specs.Blocks.{Entry, zeros, same, head_of, block_of, is_record_block, entry_of, record_in, header_of, is_header_block, header_in}
+use Rattle.logblocks.specs.Blocks.{Entry, zeros, same, head_of, block_of, is_record_block, entry_of, record_in, header_of, is_header_block, header_in}
 
 -- ---- zeros, and the same bytes
 

@@ -1,8 +1,8 @@
 use Rattle.std.proofs.Common.{◌≡◌, ◌+◌, ◌&&◌, eqb, get_or, drop, arith}
 use Rattle.std.proofs.lemmas.List.{at_drop_more, at_drop_all}
 use Rattle.std.proofs.lemmas.Bool.Decides.{nat_tests}
-use Rattle.log.specs.Blocks.{zeros}
-use Rattle.log.proofs.zeros.all_zero.Goals as goal
+use Rattle.logblocks.specs.Blocks.{zeros}
+use Rattle.logblocks.proofs.zeros.all_zero.Goals as goal
 
 pub returns-then-b-ne0 : goal.returns-then-b-ne0
 returns-then-b-ne0 c =

@@ -1,10 +1,10 @@
 use Rattle.std.proofs.Common.{◌≡◌, ◌+◌, ◌-◌, length, take, set, replicate, sym, refl, ap, ◌∙◌, arith, rules}
 use borrow.Rule.Slice.PartMut.{put_mid}
 use Rattle.std.proofs.lemmas.List.{take_all}
-use Rattle.log.specs.Blocks.{block_of, record_in}
-use Rattle.log.specs.Views.{view}
-use Rattle.log.proofs.BlockLaws.{write-record, write-back}
-use Rattle.log.proofs.record.Record.write.Goals as goal
+use Rattle.logblocks.specs.Blocks.{block_of, record_in}
+use Rattle.logblocks.specs.Views.{view}
+use Rattle.logblocks.proofs.BlockLaws.{write-record, write-back}
+use Rattle.logblocks.proofs.record.Record.write.Goals as goal
 
 pub returns : goal.returns
 returns c =
@@ -13,7 +13,7 @@ returns c =
     let m : 21 + n - 21 ≡ n = omega arith in
     let s3 = c.put-u64-2.new.bytes in
     let blank : c.fill.new.self ≡ replicate 256 0 = search rules in
-    let laid : put_mid 21 (21 + n - 21) (set s3 20 n) c.copy-from-slice.new.self ≡ block_of (view s) =
-    write-record (view s) c.fill.new.self c.put-u32.new.bytes c.put-u64.new.bytes s3 (set s3 20 n) c.copy-from-slice.new.self (21 + n - 21)
-    (omega arith) m c.copy-from-slice.ensures.after blank c.put-u32.ensures c.put-u64.ensures c.put-u64-2.ensures refl in
+    let laid : put_mid 21 (21 + n - 21) (set s3 20 n) c.copy_from_slice.new.self ≡ block_of (view s) =
+    write-record (view s) c.fill.new.self c.put-u32.new.bytes c.put-u64.new.bytes s3 (set s3 20 n) c.copy_from_slice.new.self (21 + n - 21)
+    (omega arith) m c.copy_from_slice.ensures.after blank c.put-u32.ensures c.put-u64.ensures c.put-u64-2.ensures refl in
     record { answer = search rules; after = laid; back = λ _. ap record_in laid ∙ write-back (view s) (search rules) (search rules) (search rules) (omega arith) }

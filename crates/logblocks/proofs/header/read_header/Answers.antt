@@ -2,9 +2,9 @@ use Rattle.std.proofs.Common.{◌≡◌, Some, None, sym, ap, ◌∙◌}
 use Rattle.std.proofs.ByRecursion.{All-from_get_or}
 use Rattle.std.proofs.lemmas.Bool.{cond-true, cond-false}
 use Rattle.sets.specs.Words.{number, part}
-use Rattle.log.specs.Blocks.{is_header_block, header_in}
-use Rattle.log.proofs.BlockLaws.{header-back}
-use Rattle.log.proofs.header.read_header.Goals as goal
+use Rattle.logblocks.specs.Blocks.{is_header_block, header_in}
+use Rattle.logblocks.proofs.BlockLaws.{header-back}
+use Rattle.logblocks.proofs.header.read_header.Goals as goal
 
 pub returns-then-is-header : goal.returns-then-is-header
 returns-then-is-header c =

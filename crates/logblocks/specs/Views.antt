@@ -1,7 +1,7 @@
 -- The code's record as what it says.
 use Rattle.std.specs.Prelude.{Some, None, Option}
-use Rattle.log.specs.declared.record.Record.{Record}
-use Rattle.log.specs.Blocks.{Entry}
+use Rattle.logblocks.specs.declared.record.Record.{Record}
+use Rattle.logblocks.specs.Blocks.{Entry}
 
 -- a record of the code, its body read
 abbrev pub view : Record → Entry

@@ -2,9 +2,9 @@ use Rattle.std.proofs.Common.{◌≡◌, ◌+◌, ◌-◌, get_or, take, drop, S
 use Rattle.std.proofs.ByRecursion.{All-from_get_or}
 use Rattle.std.proofs.lemmas.Bool.{cond-true}
 use Rattle.sets.specs.Words.{number, part}
-use Rattle.log.specs.Blocks.{Entry, is_record_block, entry_of, record_in}
-use Rattle.log.proofs.BlockLaws.{read_back}
-use Rattle.log.proofs.record.Record.parse.Goals as goal
+use Rattle.logblocks.specs.Blocks.{Entry, is_record_block, entry_of, record_in}
+use Rattle.logblocks.proofs.BlockLaws.{read_back}
+use Rattle.logblocks.proofs.record.Record.parse.Goals as goal
 
 pub returns : goal.returns
 returns c =

@@ -1,7 +1,7 @@
 // Records: which operation ran, the pages that it read and wrote, and its body.
 ghost use Rattle.std.specs.Prelude.{◌≡◌, true, ◌&&◌, length, if◌then◌else◌, Some, ◌==◌, nat_le};
-ghost use Rattle.log.specs.Blocks.{Entry, is_record_block, record_in, block_of};
-ghost use Rattle.log.specs.Views.{view, viewed};
+ghost use Rattle.logblocks.specs.Blocks.{Entry, is_record_block, record_in, block_of};
+ghost use Rattle.logblocks.specs.Views.{view, viewed};
 
 use crate::zeros::all_zero;
 use sets::{put_u32, put_u64, u32_at, u64_at};

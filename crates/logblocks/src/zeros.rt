@@ -1,6 +1,6 @@
 // Bytes that stand for nothing.
 ghost use Rattle.std.specs.Prelude.{◌≡◌};
-ghost use Rattle.log.specs.Blocks.{zeros};
+ghost use Rattle.logblocks.specs.Blocks.{zeros};
 
 // Whether all bytes are zero.
 pub fn all_zero(bytes: &[u8]) -> bool

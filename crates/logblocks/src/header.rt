@@ -1,6 +1,6 @@
 // The log's header: the text LTR1 and the number of the first record.
 ghost use Rattle.std.specs.Prelude.{◌≡◌, ℕ, Bool, true, not, ◌&&◌, length, take, if◌then◌else◌, Some, codes, ◌==◌};
-ghost use Rattle.log.specs.Blocks.{same, is_header_block, header_in, header_of};
+ghost use Rattle.logblocks.specs.Blocks.{same, is_header_block, header_in, header_of};
 
 use crate::zeros::all_zero;
 use sets::{put_u32, u32_at};
