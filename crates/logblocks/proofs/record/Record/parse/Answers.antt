@@ -11,7 +11,7 @@ returns c =
     let bs = c.args.block.now in
     let n = get_or bs 20 0 in
     let m : 21 + n - 21 ≡ n = omega arith in
-    let e : Entry = record { number = c.u32-at.result; reads = c.u64-at.result; writes = c.u64-at-2.result; body = take (21 + n - 21) (drop 21 bs) } in
-    let same : e ≡ entry_of bs = (λ i. record { number = c.u32-at.ensures i; reads = c.u64-at.ensures i; writes = c.u64-at-2.ensures i; body = take (m i) (drop 21 bs) }) in
-    let v : ◌≡◌ {A = Option Entry} (Some e) (record_in bs) = ap Some same ∙ sym (cond-true (is_record_block bs) (Some (entry_of bs)) None (sym c.if-not-is-record.ensures)) in
-    record { value = v; back = λ x h. read_back bs (All-from_get_or _ bs 0 (λ i l. (c.type-inv.block i).fits)) x (sym v ∙ h) }
+    let e : Entry = record { number = c.u32_at.result; reads = c.u64_at.result; writes = c.u64_at-2.result; body = take (21 + n - 21) (drop 21 bs) } in
+    let same : e ≡ entry_of bs = (λ i. record { number = c.u32_at.ensures i; reads = c.u64_at.ensures i; writes = c.u64_at-2.ensures i; body = take (m i) (drop 21 bs) }) in
+    let v : ◌≡◌ {A = Option Entry} (Some e) (record_in bs) = ap Some same ∙ sym (cond-true (is_record_block bs) (Some (entry_of bs)) None (sym c.if-not-is_record.ensures)) in
+    record { value = v; back = λ x h. read_back bs (All-from_get_or _ bs 0 (λ i l. (c.ok.block i).fits)) x (sym v ∙ h) }
