@@ -7,7 +7,7 @@ loop-o-init c = arrows-none c.args.ops.now
 
 pub loop-o-preserved : goal.loop-o-preserved
 loop-o-preserved c =
-    arrows-more c.args.ops.now c.loop-o.o-index c.loop-o.rows c.spread.new.rows c.targets-to.result c.targets-to.type-inv
+    arrows-more c.args.ops.now c.loop-o.o-index c.loop-o.rows c.spread.new.rows c.targets-to.result c.targets-to.type_inv
     c.loop-o.invariant c.spread.array_long c.targets-to.ensures c.spread.ensures
 
 pub returns : goal.returns

@@ -7,7 +7,7 @@ loop-k-init c = close_none c.args.arrows (search rules)
 
 pub loop-k-preserved : goal.loop-k-preserved
 loop-k-preserved c =
-    close_more c.args.arrows c.loop-k.k c.loop-k.rows c.let-in.new.rows c.loop-k.invariant (omega arith) c.let-in.array_long c.let-in.ensures
+    close_more c.args.arrows c.loop-k.k c.loop-k.rows c.let_in.new.rows c.loop-k.invariant (omega arith) c.let_in.array_long c.let_in.ensures
 
 pub returns : goal.returns
 returns c = close_all c.args.arrows c.loop-k.k c.loop-k.rows (omega arith) c.loop-k.invariant

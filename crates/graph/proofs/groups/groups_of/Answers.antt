@@ -8,8 +8,8 @@ loop-p-init c = gather_none (InGroupOf c.args.reach.now c.args.set)
 
 pub loop-p-preserved : goal.loop-p-preserved
 loop-p-preserved c =
-    gather-more (InGroupOf c.args.reach.now c.args.set) c.loop-p.p c.loop-p.pages c.group-if.result c.union-pages.result
-    c.loop-p.invariant c.group-if.ensures c.union-pages.ensures
+    gather-more (InGroupOf c.args.reach.now c.args.set) c.loop-p.p c.loop-p.pages c.group_if.result c.union-pages.result
+    c.loop-p.invariant c.group_if.ensures c.union-pages.ensures
 
 pub returns : goal.returns
 returns c = gather-all (InGroupOf c.args.reach.now c.args.set) c.loop-p.p 64 c.loop-p.pages (omega arith) c.loop-p.invariant

@@ -12,7 +12,7 @@ returns-in-Mount g c =
     let v = up_model {K = g.row.K.Denot} g.L.Medium.model g.S.PageStore.meaning g.S.PageStore.plan c.mount-volume.result.0 in
     taken-call g.K.Kind.meaning (down e) (up v) c.args.call Mount c.mount-volume.result.1 c.written.result Lives c.in-Mount.is refl c.written.ensures c.mount-volume.ensures
 
-pub returns-in-default : goal.returns-in-default
-returns-in-default g c =
+pub returns-in_default : goal.returns-in_default
+returns-in_default g c =
     let e = down_model {K = g.row.K.Denot} g.L.Medium.model g.S.PageStore.meaning g.S.PageStore.plan c.args.volume in
-    idle-call g.K.Kind.meaning (down e) c.args.call c.args.call refl (down-idle c.args.call c.in-default.not-Mount)
+    idle-call g.K.Kind.meaning (down e) c.args.call c.args.call refl (down-idle c.args.call c.in_default.not-Mount)

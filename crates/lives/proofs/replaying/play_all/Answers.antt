@@ -12,4 +12,4 @@ loop-i-preserved g c =
     let i = c.loop-i.i in
     let lc : i < length cs = omega (arith, c.min-n.ensures, c.loop-i-test.true) in
     let la : i < length c.loop-i.answers = omega (arith, c.min-n.ensures, c.loop-i-test.true, c.loop-i.auto.answers) in
-    (rest-still c.loop-i.answers c.args.answers.now i c.play-next.result.1 c.loop-i.invariant.0, replays-more g.K.Kind.meaning (state_of {K = g.row.K.Denot} g.L.Medium.model g.S.PageStore.meaning g.S.PageStore.plan c.args.volume) (state_of {K = g.row.K.Denot} g.L.Medium.model g.S.PageStore.meaning g.S.PageStore.plan c.loop-i.volume) (state_of {K = g.row.K.Denot} g.L.Medium.model g.S.PageStore.meaning g.S.PageStore.plan c.play-next.result.0) cs c.loop-i.answers i c.call-at.result c.play-next.result.1 lc la c.call-at.ensures c.loop-i.invariant.1 c.play-next.ensures)
+    (rest-still c.loop-i.answers c.args.answers.now i c.play-next.result.1 c.loop-i.invariant.0, replays-more g.K.Kind.meaning (state_of {K = g.row.K.Denot} g.L.Medium.model g.S.PageStore.meaning g.S.PageStore.plan c.args.volume) (state_of {K = g.row.K.Denot} g.L.Medium.model g.S.PageStore.meaning g.S.PageStore.plan c.loop-i.volume) (state_of {K = g.row.K.Denot} g.L.Medium.model g.S.PageStore.meaning g.S.PageStore.plan c.play-next.result.0) cs c.loop-i.answers i c.call_at.result c.play-next.result.1 lc la c.call_at.ensures c.loop-i.invariant.1 c.play-next.ensures)

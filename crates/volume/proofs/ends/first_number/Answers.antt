@@ -8,5 +8,5 @@ pub returns : goal.returns
 returns g c =
     let m = g.L.Medium.model c.args.log.now in
     let there = lt-ltb 0 (block_count m) (omega (arith, c.requires.there)) in
-    c.read-header.ensures.value
+    c.read_header.ensures.value
     ∙ ap header_in (c.read.ensures.buffer ∙ cond-true (ltb 0 (block_count m) && eqb 256 256) (block_at m 0) (replicate 256 0) (and_from (ltb 0 (block_count m)) (eqb 256 256) there refl))

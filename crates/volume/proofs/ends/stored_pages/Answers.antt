@@ -11,8 +11,8 @@ loop-page-preserved g c = λ q.
     let images = (g.S.PageStore.meaning c.args.store.now).image in
     let p = c.loop-page.page in
     let cur = image_at c.loop-page.pages.images in
-    taken_more images p cur (image_at c.set-image.new.self.images) c.loop-page.invariant
-    (λ r. c.set-image.ensures r ∙ ap (λ x. replaced p x cur r) c.stored-image-image.ensures) q
+    taken_more images p cur (image_at c.set_image.new.self.images) c.loop-page.invariant
+    (λ r. c.set_image.ensures r ∙ ap (λ x. replaced p x cur r) c.stored_image-image.ensures) q
 
 pub returns : goal.returns
 returns g c = λ q.

@@ -9,7 +9,7 @@ pub returns-in-Err : goal.returns-in-Err
 returns-in-Err g c =
     let bs = waiting c.args.waiting.now in
     let l : c.loop-i.i < length bs = omega (arith, c.len-n.ensures, c.loop-i-test.true) in
-    let m = g.L.Medium.model c.write-record.new.log in
+    let m = g.L.Medium.model c.write_record.new.log in
     c.loop-i.invariant (Some (report c.in-Err.fault)) m (drop c.loop-i.i bs)
     (logged-dies bs c.loop-i.i (replicate 256 0) (g.L.Medium.model c.loop-i.log) m (report c.in-Err.fault) l c.in-Err.ensures)
 
@@ -18,7 +18,7 @@ loop-i-preserved g c o m left rest =
     let bs = waiting c.args.waiting.now in
     let l : c.loop-i.i < length bs = omega (arith, c.len-n.ensures, c.loop-i-test.true) in
     c.loop-i.invariant o m left
-    (logged-on bs c.loop-i.i (replicate 256 0) (g.L.Medium.model c.loop-i.log) (g.L.Medium.model c.write-record.new.log) m o left l c.in-default.ensures rest)
+    (logged-on bs c.loop-i.i (replicate 256 0) (g.L.Medium.model c.loop-i.log) (g.L.Medium.model c.write_record.new.log) m o left l c.in_default.ensures rest)
 
 pub returns : goal.returns
 returns g c =

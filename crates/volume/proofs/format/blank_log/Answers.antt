@@ -9,7 +9,7 @@ loop-block-init g c = blanks-none (g.L.Medium.model c.args.log.now)
 pub loop-block-preserved : goal.loop-block-preserved
 loop-block-preserved g c =
     blanks-on c.loop-block.block (g.L.Medium.model c.args.log.now) (g.L.Medium.model c.loop-block.log) (g.L.Medium.model c.write.new.self) None
-    c.loop-block.invariant c.in-default.ensures.wrote
+    c.loop-block.invariant c.in_default.ensures.wrote
 
 pub returns-in-Err : goal.returns-in-Err
 returns-in-Err g c =

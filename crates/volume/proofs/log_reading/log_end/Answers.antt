@@ -8,7 +8,7 @@ loop-i-preserved g c =
     let m = g.L.Medium.model c.args.log.now in
     let n = c.loop-i.n in
     let i = c.loop-i.-i in (
-      sym (end_on m n (128 - (i + 1)) (128 - i) (omega arith) c.if-n.false (sym c.if-not-has-record.ensures)) ∙ c.loop-i.invariant.0,
+      sym (end_on m n (128 - (i + 1)) (128 - i) (omega arith) c.if-n.false (sym c.if-not-has_record.ensures)) ∙ c.loop-i.invariant.0,
       omega (arith, c.loop-i.invariant.1, c.if-n.false),
     )
 
@@ -18,11 +18,11 @@ returns-then-n g c =
     let i = c.loop-i.-i in
     sym (end_last m c.loop-i.n (128 - (i + 1)) (128 - i) (omega arith) c.if-n.true) ∙ c.loop-i.invariant.0
 
-pub returns-then-not-has-record : goal.returns-then-not-has-record
-returns-then-not-has-record g c =
+pub returns-then-not-has_record : goal.returns-then-not-has_record
+returns-then-not-has_record g c =
     let m = g.L.Medium.model c.args.log.now in
     let i = c.loop-i.-i in
-    sym (end_here m c.loop-i.n (128 - (i + 1)) (128 - i) (omega arith) (sym c.if-not-has-record.ensures)) ∙ c.loop-i.invariant.0
+    sym (end_here m c.loop-i.n (128 - (i + 1)) (128 - i) (omega arith) (sym c.if-not-has_record.ensures)) ∙ c.loop-i.invariant.0
 
 pub returns : goal.returns
 returns g c =

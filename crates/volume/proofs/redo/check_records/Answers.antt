@@ -15,18 +15,18 @@ pub loop-i-preserved : goal.loop-i-preserved
 loop-i-preserved g c =
     let m = g.L.Medium.model c.args.log.now in
     fault-none (λ i. record_fault g.K.Kind.meaning (c.args.first + i) (record_block m (c.args.first + i))) c.loop-i.i c.loop-i.invariant
-    c.in-ok-check-logged.ensures
+    c.in_ok-check_logged.ensures
 
-pub returns-in-err-check-logged : goal.returns-in-err-check-logged
-returns-in-err-check-logged g c =
+pub returns-in_err-check_logged : goal.returns-in_err-check_logged
+returns-in_err-check_logged g c =
     let m = g.L.Medium.model c.args.log.now in
     let p = err_from_is_err_and c.from-residual.result c.from-residual.ensures.1 in
-    let n : c.saturating-sub-i-end.result ≡ c.args.next - c.args.first = c.saturating-sub-i-end.ensures in
+    let n : c.saturating_sub-i-end.result ≡ c.args.next - c.args.first = c.saturating_sub-i-end.ensures in
     rw (p.1, p.2)
     (fault-here (λ i. record_fault g.K.Kind.meaning (c.args.first + i) (record_block m (c.args.first + i))) c.loop-i.i (c.args.next - c.args.first)
-    (report c.in-err-check-logged.field-0.0) (omega (arith, c.loop-i-test.true)) c.loop-i.invariant c.in-err-check-logged.ensures)
+    (report c.in_err-check_logged.field-0.0) (omega (arith, c.loop-i-test.true)) c.loop-i.invariant c.in_err-check_logged.ensures)
 
 pub returns : goal.returns
 returns g c =
-    let end : c.loop-i.i ≡ c.args.next - c.args.first = omega (arith, c.saturating-sub-i-end.ensures) in
+    let end : c.loop-i.i ≡ c.args.next - c.args.first = omega (arith, c.saturating_sub-i-end.ensures) in
     c.loop-i.invariant ∙ ap (records_fault g.K.Kind.meaning (g.L.Medium.model c.args.log.now) c.args.first) end

@@ -10,11 +10,11 @@ loop-page-init c = every-none (λ p. not (has c.args.writes p) || leb c.args.n (
 
 pub loop-page-preserved : goal.loop-page-preserved
 loop-page-preserved c =
-    every_more (λ p. not (has c.args.writes p) || leb c.args.n (number_of (image_at c.args.pages.now.images p))) c.loop-page.page c.loop-page.invariant (sym c.if-not-has-reached.ensures)
+    every_more (λ p. not (has c.args.writes p) || leb c.args.n (number_of (image_at c.args.pages.now.images p))) c.loop-page.page c.loop-page.invariant (sym c.if-not-has_reached.ensures)
 
-pub returns-then-not-has-reached : goal.returns-then-not-has-reached
-returns-then-not-has-reached c =
-    sym (every-not (λ p. not (has c.args.writes p) || leb c.args.n (number_of (image_at c.args.pages.now.images p))) c.loop-page.page 64 c.loop-page-test.true (sym c.if-not-has-reached.ensures))
+pub returns-then-not-has_reached : goal.returns-then-not-has_reached
+returns-then-not-has_reached c =
+    sym (every-not (λ p. not (has c.args.writes p) || leb c.args.n (number_of (image_at c.args.pages.now.images p))) c.loop-page.page 64 c.loop-page-test.true (sym c.if-not-has_reached.ensures))
 
 pub returns : goal.returns
 returns c =

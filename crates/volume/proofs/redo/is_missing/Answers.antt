@@ -10,11 +10,11 @@ loop-page-init c = every-none (λ p. not (has c.args.writes p) || ltb (number_of
 
 pub loop-page-preserved : goal.loop-page-preserved
 loop-page-preserved c =
-    every_more (λ p. not (has c.args.writes p) || ltb (number_of (image_at c.args.pages.now.images p)) c.args.n) c.loop-page.page c.loop-page.invariant (sym c.if-not-lies-below.ensures)
+    every_more (λ p. not (has c.args.writes p) || ltb (number_of (image_at c.args.pages.now.images p)) c.args.n) c.loop-page.page c.loop-page.invariant (sym c.if-not-lies_below.ensures)
 
-pub returns-then-not-lies-below : goal.returns-then-not-lies-below
-returns-then-not-lies-below c =
-    sym (every-not (λ p. not (has c.args.writes p) || ltb (number_of (image_at c.args.pages.now.images p)) c.args.n) c.loop-page.page 64 c.loop-page-test.true (sym c.if-not-lies-below.ensures))
+pub returns-then-not-lies_below : goal.returns-then-not-lies_below
+returns-then-not-lies_below c =
+    sym (every-not (λ p. not (has c.args.writes p) || ltb (number_of (image_at c.args.pages.now.images p)) c.args.n) c.loop-page.page 64 c.loop-page-test.true (sym c.if-not-lies_below.ensures))
 
 pub returns : goal.returns
 returns c =

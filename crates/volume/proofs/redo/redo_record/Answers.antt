@@ -10,6 +10,6 @@ returns g c =
     let k = g.K.Kind.meaning in
     let s = redone_in c.args.pages.now c.args.dirty.now in
     let e = view c.in-Some.logged in
-    c.redo-uninstalled.ensures
-    ∙ not-installed k c.args.n e s (sym c.if-is-installed.ensures)
+    c.redo_uninstalled.ensures
+    ∙ not-installed k c.args.n e s (sym c.if-is_installed.ensures)
     ∙ ap (λ x. record_redone k c.args.n x s) (entry_read e c.args.block.now c.in-Some.ensures.value)

@@ -13,14 +13,14 @@ loop-i-init g c =
     let none : length (dirty c.args.dirty.now) ≡ 0 = ap length c.requires.none in
     (redo-none g.K.Kind.meaning (g.L.Medium.model c.args.log.now) c.args.first (redone_in c.args.pages.now c.args.dirty.now), omega arith)
 
-pub redo-logged-requires : goal.redo-logged-requires
-redo-logged-requires g c =
+pub redo_logged-requires : goal.redo_logged-requires
+redo_logged-requires g c =
     let m = g.L.Medium.model c.args.log.now in
     record {
       there = c.requires.there;
       faultless = fault-none_at (λ i. record_fault g.K.Kind.meaning (c.args.first + i) (record_block m (c.args.first + i))) (c.args.next - c.args.first) c.loop-i.i
-          c.requires.faultless (omega (arith, c.loop-i-test.true, c.saturating-sub-i-end.ensures));
-      room = omega (arith, c.loop-i.invariant.1, c.requires.few, c.loop-i-test.true, c.saturating-sub-i-end.ensures);
+          c.requires.faultless (omega (arith, c.loop-i-test.true, c.saturating_sub-i-end.ensures));
+      room = omega (arith, c.loop-i.invariant.1, c.requires.few, c.loop-i-test.true, c.saturating_sub-i-end.ensures);
     }
 
 pub loop-i-preserved : goal.loop-i-preserved
@@ -30,23 +30,23 @@ loop-i-preserved g c =
     let f = c.args.first in
     let i = c.loop-i.i in
     let cur = redone_in c.loop-i.pages c.loop-i.dirty in
-    let new = redone_in c.redo-logged.new.pages c.redo-logged.new.dirty in (
-      redo-more k m f (redone_in c.args.pages.now c.args.dirty.now) i cur (Ok new) c.loop-i.invariant.0 c.in-ok-redo-logged.ensures,
-      omega (arith, c.loop-i.invariant.1, redo-adds k (f + i) (entry_at m (f + i)) cur new c.in-ok-redo-logged.ensures),
+    let new = redone_in c.redo_logged.new.pages c.redo_logged.new.dirty in (
+      redo-more k m f (redone_in c.args.pages.now c.args.dirty.now) i cur (Ok new) c.loop-i.invariant.0 c.in_ok-redo_logged.ensures,
+      omega (arith, c.loop-i.invariant.1, redo-adds k (f + i) (entry_at m (f + i)) cur new c.in_ok-redo_logged.ensures),
     )
 
-pub returns-in-err-redo-logged : goal.returns-in-err-redo-logged
-returns-in-err-redo-logged g c =
+pub returns-in_err-redo_logged : goal.returns-in_err-redo_logged
+returns-in_err-redo_logged g c =
     let k = g.K.Kind.meaning in
     let m = g.L.Medium.model c.args.log.now in
     let p = err_from_is_err_and c.from-residual.result c.from-residual.ensures.1 in
     rw (p.1, p.2)
     (redo-refused k m c.args.first (redone_in c.args.pages.now c.args.dirty.now) c.loop-i.i (c.args.next - c.args.first)
-    (redone_in c.loop-i.pages c.loop-i.dirty) (report c.in-err-redo-logged.field-0.0)
-    (omega (arith, c.loop-i-test.true, c.saturating-sub-i-end.ensures)) c.loop-i.invariant.0 c.in-err-redo-logged.ensures)
+    (redone_in c.loop-i.pages c.loop-i.dirty) (report c.in_err-redo_logged.field-0.0)
+    (omega (arith, c.loop-i-test.true, c.saturating_sub-i-end.ensures)) c.loop-i.invariant.0 c.in_err-redo_logged.ensures)
 
 pub returns : goal.returns
 returns g c =
-    let end : c.loop-i.i ≡ c.args.next - c.args.first = omega (arith, c.saturating-sub-i-end.ensures) in
+    let end : c.loop-i.i ≡ c.args.next - c.args.first = omega (arith, c.saturating_sub-i-end.ensures) in
     c.loop-i.invariant.0
     ∙ ap (λ n. records_redone g.K.Kind.meaning (g.L.Medium.model c.args.log.now) c.args.first n (redone_in c.args.pages.now c.args.dirty.now)) end

@@ -4,11 +4,11 @@ use Rattle.tables.proofs.dirty_ops.walks.keep.Goals as goal
 use Rattle.tables.proofs.dirty_ops.walks.keep.Goals.{then-not-writes-into, else-not-writes-into}
 
 pub loop-i-preserved : goal.loop-i-preserved
-loop-i-preserved c = elim c.if-not-writes-into.branch [
+loop-i-preserved c = elim c.if-not-writes_into.branch [
   | then-not-writes-into w ↦
-      keep_more c.args.set c.args.ops.now c.loop-i.ops c.if-not-writes-into.ops c.loop-i.k c.loop-i.i c.if-not-writes-into.k
-      c.loop-i.invariant (omega arith) (sym c.writes_inside.ensures ∙ w.if-not-writes-into.true) w.ops-is w.k-is
+      keep_more c.args.set c.args.ops.now c.loop-i.ops c.if-not-writes_into.ops c.loop-i.k c.loop-i.i c.if-not-writes_into.k
+      c.loop-i.invariant (omega arith) (sym c.writes_inside.ensures ∙ w.if-not-writes_into.true) w.ops-is w.k-is
   | else-not-writes-into w ↦
-      strike_more c.args.set c.args.ops.now c.loop-i.ops c.if-not-writes-into.ops c.loop-i.k c.loop-i.i c.if-not-writes-into.k
-      c.loop-i.invariant (omega arith) (sym c.writes_inside.ensures ∙ w.if-not-writes-into.false) w.ops-is w.k-is
+      strike_more c.args.set c.args.ops.now c.loop-i.ops c.if-not-writes_into.ops c.loop-i.k c.loop-i.i c.if-not-writes_into.k
+      c.loop-i.invariant (omega arith) (sym c.writes_inside.ensures ∙ w.if-not-writes_into.false) w.ops-is w.k-is
 ]
