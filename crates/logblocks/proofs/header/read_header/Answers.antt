@@ -10,4 +10,4 @@ pub returns-then-is_header : goal.returns-then-is_header
 returns-then-is_header c =
     let bs = c.args.block.now in
     let v : Some c.u32_at.result ≡ header_in bs = ap Some c.u32_at.ensures ∙ sym (cond-true (is_header_block bs) (Some (number (part 4 4 bs))) None (sym c.if-is_header.ensures)) in
-    record { value = v; back = λ n e. header-back bs (All-from_get_or _ bs 0 (λ i l. c.type_inv.block i)) n (sym v ∙ e) }
+    record { value = v; back = λ n e. header-back bs (All-from_get_or _ bs 0 (λ i l. (c.type_inv.block i).fits)) n (sym v ∙ e) }

@@ -14,4 +14,4 @@ returns c =
     let e : Entry = record { number = c.u32_at.result; reads = c.u64_at.result; writes = c.u64_at-2.result; body = take (21 + n - 21) (drop 21 bs) } in
     let same : e ≡ entry_of bs = (λ i. record { number = c.u32_at.ensures i; reads = c.u64_at.ensures i; writes = c.u64_at-2.ensures i; body = take (m i) (drop 21 bs) }) in
     let v : ◌≡◌ {A = Option Entry} (Some e) (record_in bs) = ap Some same ∙ sym (cond-true (is_record_block bs) (Some (entry_of bs)) None (sym c.if-not-is_record.ensures)) in
-    record { value = v; back = λ x h. read_back bs (All-from_get_or _ bs 0 (λ i l. c.type_inv.block i)) x (sym v ∙ h) }
+    record { value = v; back = λ x h. read_back bs (All-from_get_or _ bs 0 (λ i l. (c.type_inv.block i).fits)) x (sym v ∙ h) }
