@@ -7,8 +7,8 @@ pub loop-i-preserved : goal.loop-i-preserved
 loop-i-preserved c = elim c.if-not-writes_into.branch [
   | then-not-writes_into w ↦
       keep_more c.args.set c.args.ops.now c.loop-i.ops c.if-not-writes_into.ops c.loop-i.k c.loop-i.i c.if-not-writes_into.k
-      c.loop-i.invariant (omega arith) (sym c.writes_inside.ensures ∙ w.if-not-writes_into.true) w.ops-is w.k-is
+      c.loop-i.invariant (omega arith) (sym c.writes_into.ensures ∙ w.if-not-writes_into.true) w.ops-is w.k-is
   | else-not-writes_into w ↦
       strike_more c.args.set c.args.ops.now c.loop-i.ops c.if-not-writes_into.ops c.loop-i.k c.loop-i.i c.if-not-writes_into.k
-      c.loop-i.invariant (omega arith) (sym c.writes_inside.ensures ∙ w.if-not-writes_into.false) w.ops-is w.k-is
+      c.loop-i.invariant (omega arith) (sym c.writes_into.ensures ∙ w.if-not-writes_into.false) w.ops-is w.k-is
 ]
