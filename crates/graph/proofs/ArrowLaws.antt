@@ -1,10 +1,10 @@
 -- The table of arrows has the arrows of the theory.
-use Rattle.std.proofs.Common.{◌≡◌, ℕ, zero, suc, ◌+◌, ◌^◌, ◌<◌, ◌≤◌, Bool, true, false, ◌&&◌, ◌||◌, ltb, ◌⊎◌, List, length, get_or, replicate, Decides, sym, refl, ap, ◌∙◌, subst, inl, inr, arith}
+use Rattle.std.proofs.Common.{◌≡◌, ℕ, ◌+◌, ◌^◌, ◌<◌, true, ◌&&◌, ◌||◌, List, length, get_or, replicate, Decides, sym, ap, ◌∙◌, subst, inl, inr, arith}
 use Rattle.std.proofs.lemmas.Bool.{both_ways, cases_eq, cases_lt, or_cases, or_left, or_right, and_parts, and_from, ltb-true, lt-ltb}
 use Rattle.std.proofs.lemmas.List.{get_or_past, get_or-replicate, length-replicate}
 use Rattle.sets.specs.Sets.{has}
 use Rattle.sets.proofs.SetLaws.{has-none, has_within}
-use Rattle.redo.specs.WriteGraph.{Operations, WritesBoth, ReadsBefore, Arrow, Dirty}
+use Rattle.redo.specs.WriteGraph.{Arrow, Dirty}
 use Rattle.redo.proofs.GraphLaws.{arrow-from}
 use Rattle.graph.specs.declared.op.Op.{Op}
 use Rattle.graph.specs.Ops.{nothing, dirty_ops, Pages}

@@ -1,5 +1,5 @@
 -- One round of the closure after the other.
-use Rattle.std.proofs.Common.{◌≡◌, ℕ, zero, suc, ◌+◌, ◌<◌, ◌≤◌, Bool, true, false, ◌&&◌, ◌||◌, List, length, sym, refl, ap, ◌∙◌, subst, ap₂, add-one, arith}
+use Rattle.std.proofs.Common.{◌≡◌, ℕ, ◌+◌, ◌<◌, Bool, ◌&&◌, ◌||◌, List, length, sym, refl, ap, ◌∙◌, ap₂, add-one}
 use Rattle.redo.specs.Closure.{via, pages_below}
 use Rattle.graph.specs.Rows.{leads}
 

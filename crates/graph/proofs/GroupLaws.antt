@@ -1,9 +1,9 @@
 -- Sets of pages that a table of rows gives.
-use Rattle.std.proofs.Common.{◌≡◌, ℕ, zero, suc, ◌+◌, ◌^◌, ◌<◌, ◌≤◌, Bool, true, false, ◌&&◌, ◌||◌, eqb, ltb, ◌⊎◌, List, length, get_or, Decides, sym, refl, ap, ◌∙◌, subst, ap₂, inl, inr, arith}
+use Rattle.std.proofs.Common.{◌≡◌, ℕ, ◌<◌, ◌≤◌, true, false, ◌&&◌, eqb, ltb, List, length, get_or, Decides, sym, refl, ap, ◌∙◌, subst, ap₂, inl, inr, arith}
 use Rattle.std.proofs.lemmas.Bool.{both_ways, cases_lt, and_parts, and_from, and_left, eqb-true, eq-eqb, ltb-true, lt-ltb}
 use Rattle.std.proofs.lemmas.Bool.Decides.{same_from_decides}
 use Rattle.std.proofs.lemmas.List.{get_or_past}
-use Rattle.sets.specs.Sets.{has, SetOf, Meet, first, lowest}
+use Rattle.sets.specs.Sets.{has, SetOf, Meet, lowest}
 use Rattle.sets.proofs.SetLaws.{has-none, first-hit, lowest-in}
 use Rattle.redo.specs.WriteGraph.{Dirty}
 use Rattle.graph.specs.declared.op.Op.{Op}

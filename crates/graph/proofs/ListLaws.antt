@@ -1,19 +1,19 @@
 -- Lists of the dirty operations of a history.
-use Rattle.std.proofs.Common.{◌≡◌, ℕ, zero, suc, ◌<◌, ◌≤◌, Bool, true, false, cond, not, ◌&&◌, ◌||◌, eqb, ltb, leb, ◌⊎◌, List, [], ◌∷◌, ◌++◌, map, length, get_or, filter, sym, refl, ap, ◌∙◌, subst, ap₂, inl, inr, arith}
+use Rattle.std.proofs.Common.{◌≡◌, ℕ, zero, suc, ◌<◌, Bool, true, false, cond, not, ◌&&◌, eqb, ltb, leb, List, [], ◌∷◌, ◌++◌, map, length, get_or, filter, sym, refl, ap, ◌∙◌, subst, ap₂, inl, inr, arith}
 use mathlib.Core.Path.{fun_ext}
 use Rattle.std.specs.List.{ContainsAt as Has, AllByRecursion as All}
 use Rattle.std.proofs.lemmas.List.{length-map, get_or-map, map_push}
 use Rattle.std.proofs.lemmas.List.Elements.{filter-append}
 use Rattle.std.proofs.ByRecursion.{All-get_or, All-from_get_or, All-append, All-push, All-weaker, all_kept_by, has_append_left, has_append_right}
-use Rattle.std.proofs.lemmas.Bool.{both_ways, or_right, cases_eq, cases_Bool, cond-true, cond-false, ltb-true, lt-ltb, and_from, not_from_false, le-leb, eq-eqb, ne_eqb}
+use Rattle.std.proofs.lemmas.Bool.{both_ways, or_right, cases_eq, cond-true, ltb-true, lt-ltb, le-leb, eq-eqb, ne_eqb}
 use Rattle.sets.specs.Sets.{has, rising}
 use Rattle.redo.specs.Histories.{page_count, Operation, History, reads, writes}
 use Rattle.redo.specs.Prefixes.{uninstalled}
 use Rattle.redo.specs.Recovery.{some}
-use Rattle.redo.specs.WriteGraph.{Operations, operations, Among}
+use Rattle.redo.specs.WriteGraph.{operations, Among}
 use Rattle.redo.specs.Installation.{joined, extended}
 use Rattle.redo.proofs.TestLaws.{rising-like}
-use Rattle.redo.proofs.InstallLaws.{uninstalled-parts, uninstalled-from, joined-dirty}
+use Rattle.redo.proofs.InstallLaws.{uninstalled-parts, joined-dirty}
 use Rattle.redo.proofs.KeepLaws.{reads_same, writes_same, new-operation, newly_dirty, or-none}
 use Rattle.redo.proofs.GraphLaws.{graph_by_operations_lem}
 use Rattle.graph.specs.declared.op.Op.{Op}

@@ -1,9 +1,9 @@
 -- The tables of arrows and of reach give groups and their order as the theory has them.
-use Rattle.std.proofs.Common.{◌≡◌, ℕ, zero, suc, ◌+◌, ◌^◌, ◌<◌, ◌≤◌, Bool, true, false, not, ◌&&◌, ◌||◌, ◌⊎◌, List, length, get_or, Decides, sym, refl, ap, ◌∙◌, subst, ap₂, inl, inr, arith}
+use Rattle.std.proofs.Common.{◌≡◌, ℕ, ◌^◌, ◌<◌, ◌≤◌, true, false, not, ◌&&◌, List, length, Decides, sym, refl, ◌∙◌, subst, inl, inr, arith}
 use Rattle.std.proofs.lemmas.Bool.{both_ways, cases_lt, cases_Bool, and_parts, and_from, not-true, not_from_false}
-use Rattle.std.proofs.lemmas.Bool.Decides.{Decides-at, Decides-and, Decides-like}
+use Rattle.std.proofs.lemmas.Bool.Decides.{Decides-at, Decides-and}
 use Rattle.sets.specs.Sets.{has, SetOf, Meet, first}
-use Rattle.sets.proofs.SetLaws.{first-hit, first-least, first-le}
+use Rattle.sets.proofs.SetLaws.{first-hit, first-least}
 use Rattle.redo.specs.WriteGraph.{Operations, Arrow, Reaches, Dirty, SameGroup, DirectlyBefore, LowestOfGroup}
 use Rattle.redo.specs.Closure.{via, pages_below}
 use Rattle.redo.proofs.ClosureLaws.{listed_below, via-decides}

@@ -1,5 +1,5 @@
 -- A list of the dirty operations of a history.
-use Rattle.std.specs.Prelude.{◌≡◌, ℕ, suc, ◌≤◌, Bool, true, false, not, ◌&&◌, List, [], ◌∷◌, ◌++◌, map, filter}
+use Rattle.std.specs.Prelude.{◌≡◌, ℕ, suc, ◌≤◌, Bool, false, not, ◌&&◌, List, [], ◌∷◌, ◌++◌, map, filter}
 use Rattle.std.specs.List.{AllByRecursion as All}
 use Rattle.sets.specs.Sets.{has, rising}
 use Rattle.redo.specs.Histories.{page_count, Operation, History, reads, writes}

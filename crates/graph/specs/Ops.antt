@@ -1,5 +1,5 @@
 -- The dirty operations that a slice lists.
-use Rattle.std.specs.Prelude.{◌≡◌, ℕ, Bool, true, false, List, length, Decides, nat_lt, slice_index_or}
+use Rattle.std.specs.Prelude.{◌≡◌, ℕ, List, length, Decides, nat_lt, slice_index_or}
 use Rattle.sets.specs.Sets.{has}
 use Rattle.redo.specs.WriteGraph.{Operations, Dirty, SameGroup, LowestOfGroup}
 use Rattle.graph.specs.declared.op.Op.{Op}

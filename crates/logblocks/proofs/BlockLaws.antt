@@ -1,13 +1,13 @@
 -- Blocks and what they say, both ways; and a block written front to back.
-use Rattle.std.proofs.Common.{◌≡◌, ℕ, zero, suc, ◌+◌, ◌-◌, ◌*◌, ◌/◌, ◌%◌, ◌^◌, ◌<◌, ◌≤◌, min, Bool, true, false, cond, not, ◌&&◌, eqb, leb, List, [], ◌∷◌, ◌++◌, length, get_or, take, drop, set, replicate, Some, None, codes, Option, sym, refl, ap, ◌∙◌, ap₂, inl, inr, arith}
+use Rattle.std.proofs.Common.{◌≡◌, ℕ, zero, suc, ◌+◌, ◌-◌, ◌^◌, ◌<◌, ◌≤◌, true, not, ◌&&◌, eqb, leb, List, [], ◌∷◌, ◌++◌, length, get_or, take, drop, set, replicate, Some, None, codes, Option, sym, refl, ap, ◌∙◌, ap₂, inl, inr, arith}
 use borrow.Rule.Slice.PartMut.{put_mid}
 use Rattle.std.specs.List.{AllByRecursion as All}
-use Rattle.std.proofs.ByRecursion.{All-take, All-drop, All-get_or}
-use Rattle.std.proofs.lemmas.List.{append_assoc, append-nil, length-take, length-drop, length-append, length-replicate, take-append-drop, take_all, take_at, drop_at, drop-drop, drop_more, drop-replicate, get_or_at, set_at}
-use Rattle.std.proofs.lemmas.Bool.{and_parts, and_from, eqb-true, eq-eqb, leb-true, le-leb, not-true, not_from_false, eqb-false, ne_eqb, cond-true, cond-false, cases_Bool}
+use Rattle.std.proofs.ByRecursion.{All-take, All-drop}
+use Rattle.std.proofs.lemmas.List.{append_assoc, length-take, length-drop, length-append, length-replicate, take-append-drop, take_all, take_at, drop_at, drop-drop, drop_more, drop-replicate, get_or_at, set_at}
+use Rattle.std.proofs.lemmas.Bool.{and_parts, and_from, eqb-true, eq-eqb, leb-true, le-leb, cond-true, cond-false, cases_Bool}
 use Rattle.sets.specs.Words.{number, bytes_of, part, over}
 use Rattle.sets.proofs.WordLaws.{bytes-length, number-bytes, bytes-number}
-use Rattle.logblocks.specs.Blocks.{Entry, zeros, same, head_of, block_of, is_record_block, entry_of, record_in, header_of, is_header_block, header_in}
+use Rattle.logblocks.specs.Blocks.{Entry, zeros, same, block_of, is_record_block, entry_of, record_in, header_of, is_header_block, header_in}
 
 -- ---- zeros, and the same bytes
 

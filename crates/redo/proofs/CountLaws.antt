@@ -1,12 +1,12 @@
 -- How many groups there are.
-use Rattle.std.proofs.Common.{◌≡◌, ℕ, zero, suc, ◌+◌, ◌<◌, ◌≤◌, Bool, true, false, cond, ◌⊎◌, Decides, sym, refl, ap, ◌∙◌, subst, ap₂, inl, inr, arith}
+use Rattle.std.proofs.Common.{◌≡◌, ℕ, zero, suc, ◌+◌, ◌<◌, Bool, true, false, cond, ◌⊎◌, sym, refl, ap, ◌∙◌, ap₂, inl, inr, arith}
 use Rattle.std.proofs.lemmas.Bool.{both_ways, cases_eq, cases_lt, cases_Bool, cond-true, cond-false}
 use Rattle.sets.specs.Sets.{count, first}
 use Rattle.sets.proofs.SetLaws.{first-hit, first-least}
 use Rattle.redo.specs.Closure.{pages_below}
-use Rattle.redo.specs.WriteGraph.{Operations, Dirty, SameGroup, Finite, LowestOfGroup, GroupCount}
+use Rattle.redo.specs.WriteGraph.{Operations, Dirty, SameGroup, LowestOfGroup}
 use Rattle.redo.specs.Installation.{IsGroup}
-use Rattle.redo.specs.Theorems.{Rest, OneGroupFewer, NoGroupsClean}
+use Rattle.redo.specs.Theorems.{OneGroupFewer, NoGroupsClean}
 use Rattle.redo.proofs.GraphLaws.{reach-from, group-self, group-sym, group-trans}
 use Rattle.redo.proofs.ClosureLaws.{listed_below}
 use Rattle.redo.proofs.DecideLaws.{group-test, group-decides}

@@ -1,11 +1,11 @@
 -- Arrows, reach, groups and order can be decided, where the dirty operations are among the first n and the pages that they write are listed.
-use Rattle.std.proofs.Common.{◌≡◌, ℕ, zero, suc, ◌<◌, Bool, true, false, not, ◌&&◌, ◌||◌, eqb, ltb, ◌⊎◌, List, [], ◌∷◌, Decides, sym, refl, ap, ◌∙◌, inl, inr}
+use Rattle.std.proofs.Common.{◌≡◌, ℕ, ◌<◌, Bool, true, false, not, ◌&&◌, ◌||◌, eqb, ltb, List, [], ◌∷◌, Decides, refl, inl, inr}
 use Rattle.std.proofs.lemmas.Bool.{both_ways, cases_Bool, and_parts, and_from, or_cases, or_left, or_right, eqb-true, ltb-true, lt-ltb, not_from_false, not-true}
 use Rattle.std.proofs.lemmas.Bool.Decides.{Decides-and}
 use Rattle.redo.specs.Recovery.{some}
-use Rattle.redo.specs.WriteGraph.{Operations, WritesBoth, ReadsBefore, Arrow, Reaches, one, more, Dirty, SameGroup, DirectlyBefore}
+use Rattle.redo.specs.WriteGraph.{Operations, Arrow, Reaches, Dirty, SameGroup, DirectlyBefore}
 use Rattle.redo.proofs.TestLaws.{some-from, some_at}
-use Rattle.redo.proofs.GraphLaws.{reach-to, arrow-from, arrow-to}
+use Rattle.redo.proofs.GraphLaws.{reach-to, arrow-to}
 use Rattle.redo.specs.Situations.{listed}
 use Rattle.redo.proofs.ClosureLaws.{via-decides}
 use Rattle.redo.specs.Closure.{via}

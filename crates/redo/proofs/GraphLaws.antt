@@ -1,7 +1,7 @@
 -- Laws of reach, groups and the order among them.
-use Rattle.std.proofs.Common.{◌≡◌, ℕ, ◌<◌, Bool, true, false, ◌⊎◌, sym, ◌∙◌, subst₂, inl, inr}
-use Rattle.redo.specs.WriteGraph.{Operations, WritesBoth, ReadsBefore, Arrow, Reaches, one, more, Dirty, SameGroup, DirectlyBefore, Before, step, steps, Circle, Among}
-use Rattle.redo.specs.Theorems.{GroupsPart, NoCircle, SameGraph, GraphByOperations}
+use Rattle.std.proofs.Common.{ℕ, ◌<◌, sym, ◌∙◌, subst₂, inl, inr}
+use Rattle.redo.specs.WriteGraph.{Operations, Arrow, Reaches, one, more, Dirty, SameGroup, DirectlyBefore, Before, step, steps, Among}
+use Rattle.redo.specs.Theorems.{GroupsPart, NoCircle, GraphByOperations}
 
 pub reach-trans : (d : Operations) {a b c : ℕ} → Reaches d a b → Reaches d b c → Reaches d a c
 reach-trans d (one ar) r = more ar r

@@ -1,8 +1,7 @@
 -- What operations give in order, and the page that the last of a set of them left.
-use Rattle.std.proofs.Common.{◌≡◌, ℕ, zero, suc, ◌+◌, ◌<◌, ◌≤◌, Bool, true, false, cond, not, ◌&&◌, ◌||◌, eqb, ltb, leb, ◌⊎◌, List, Some, None, Option, sym, refl, ap, ◌∙◌, inl, inr, arith}
-use mathlib.Core.Path.{fun_ext}
-use Rattle.std.proofs.lemmas.Bool.{both_ways, cond-true, cond-false, cases_Bool, cases_lt, cases_eq, and_parts, and_from, and_left, and_right, leb-true}
-use Rattle.redo.specs.Histories.{page_count, Page, Operation, History, reads, writes, touches, contents_of, effect_on, renewed, run, after, image, Ran}
+use Rattle.std.proofs.Common.{◌≡◌, ℕ, zero, suc, ◌<◌, ◌≤◌, Bool, true, false, ◌&&◌, leb, ◌⊎◌, List, Some, sym, refl, ap, ◌∙◌, inl, inr, arith}
+use Rattle.std.proofs.lemmas.Bool.{both_ways, cond-true, cond-false, cases_lt, cases_eq, and_parts, and_from, and_left, and_right, leb-true}
+use Rattle.redo.specs.Histories.{Page, History, reads, writes, effect_on, renewed, run, after, image, Ran}
 
 module _ (h : History) where
   -- an operation that touches a page bears a number from the first on

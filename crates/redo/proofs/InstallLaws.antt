@@ -1,16 +1,15 @@
 -- A group that has none directly before it can be installed, and the rest of the graph stays.
-use Rattle.std.proofs.Common.{◌≡◌, ℕ, zero, suc, ◌+◌, ◌<◌, ◌≤◌, Bool, true, false, cond, not, ◌&&◌, ◌||◌, eqb, ltb, leb, ◌⊎◌, ◌↔◌, sym, refl, ap, ◌∙◌, subst, inl, inr, arith}
-use mathlib.Core.Path.{fun_ext}
-use Rattle.std.proofs.lemmas.Bool.{both_ways, cond-true, cond-false, cases_Bool, and_parts, and_from, or_left, or_right, or_from, or_parts, or_cases, leb-true, ltb-true, lt-ltb, le-leb, not_from_true, not_from_false, not-true, not-false, and_left, and_cases, cases_order}
-use Rattle.redo.specs.Histories.{page_count, Page, Operation, History, reads, writes, touches, contents_of, effect_on, renewed, run, after, image, Ran}
-use Rattle.redo.specs.Prefixes.{uninstalled, Prefix, Untouched, FirstReads, Exposed, Recoverable, Installed}
+use Rattle.std.proofs.Common.{◌≡◌, ℕ, ◌<◌, ◌≤◌, Bool, true, false, not, ◌&&◌, ◌||◌, ltb, leb, ◌⊎◌, sym, refl, ap, ◌∙◌, subst, inl, inr, arith}
+use Rattle.std.proofs.lemmas.Bool.{both_ways, cond-true, cond-false, cases_Bool, and_parts, and_from, or_left, or_right, or_from, or_parts, or_cases, leb-true, ltb-true, lt-ltb, le-leb, not_from_false, not-true, not-false, and_cases, cases_order}
+use Rattle.redo.specs.Histories.{page_count, Page, History, reads, writes, touches, after, image, Ran}
+use Rattle.redo.specs.Prefixes.{uninstalled, Prefix, Untouched, Exposed, Recoverable, Installed}
 use Rattle.redo.specs.Recovery.{some}
-use Rattle.redo.specs.WriteGraph.{Operations, operations, WritesBoth, ReadsBefore, Arrow, Reaches, one, more, Dirty, SameGroup, DirectlyBefore, Ready, Finite}
+use Rattle.redo.specs.WriteGraph.{Operations, operations, Arrow, Reaches, one, more, SameGroup, DirectlyBefore, Ready}
 use Rattle.redo.specs.Installation.{IsGroup, joined, stored_with}
 use Rattle.redo.specs.Theorems.{Rest, GroupInstalls, GroupExplains, HistoryFinite}
 use Rattle.redo.proofs.TestLaws.{some-from, some_at, least}
 use Rattle.redo.proofs.HistoryLaws.{writes-from, reads-from, image-all, image-like}
-use Rattle.redo.proofs.GraphLaws.{reach-trans, dirty-arrow, arrow-from, group-self}
+use Rattle.redo.proofs.GraphLaws.{reach-trans, arrow-from, group-self}
 
 -- what is not installed
 pub uninstalled-from : (h : History) (I : ℕ → Bool) (n m : ℕ) → h.first ≤ m → m < n → I m ≡ false → uninstalled h I n m ≡ true

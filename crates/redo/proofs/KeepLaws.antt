@@ -1,13 +1,13 @@
 -- Running one more operation, losing operations at the end, and dropping installed ones from the log.
-use Rattle.std.proofs.Common.{◌≡◌, ℕ, zero, suc, ◌+◌, ◌<◌, ◌≤◌, Bool, true, false, cond, not, ◌&&◌, ◌||◌, eqb, ltb, leb, ◌⊎◌, List, Some, None, Option, sym, refl, ap, ◌∙◌, subst, ap₂, inl, inr, arith}
+use Rattle.std.proofs.Common.{◌≡◌, ℕ, zero, suc, ◌<◌, ◌≤◌, Bool, true, false, cond, not, ◌&&◌, ◌||◌, eqb, ltb, leb, ◌⊎◌, List, Some, sym, refl, ap, ◌∙◌, subst, ap₂, inl, inr, arith}
 use mathlib.Core.Path.{fun_ext}
-use Rattle.std.proofs.lemmas.Bool.{both_ways, cond-true, cond-false, cases_Bool, cases_lt, cases_eq, and_parts, and_from, and_left, and_right, or_left, or_right, or_cases, leb-true, le-leb, lt-leb, lt-ltb, le-ltb, eq-eqb, ne_eqb, not_from_true}
-use Rattle.redo.specs.Histories.{page_count, Page, Operation, History, reads, writes, touches, contents_of, effect_on, renewed, run, after, image, WellFormed, Ran}
+use Rattle.std.proofs.lemmas.Bool.{both_ways, cond-true, cond-false, cases_Bool, cases_lt, cases_eq, and_left, and_right, or_left, or_right, or_cases, le-leb, lt-leb, lt-ltb, le-ltb, eq-eqb, ne_eqb, not_from_true}
+use Rattle.redo.specs.Histories.{Page, Operation, History, reads, writes, touches, contents_of, effect_on, renewed, run, after, image, WellFormed, Ran}
 use Rattle.redo.specs.Prefixes.{uninstalled, Prefix, Installed}
 use Rattle.redo.specs.Installation.{extended, trimmed}
 use Rattle.redo.specs.Theorems.{RunKeeps, LossKeeps, TrimKeeps}
 use Rattle.redo.proofs.InstallLaws.{uninstalled-from}
-use Rattle.redo.proofs.HistoryLaws.{writes-from, reads-from, after-suc, run-unwritten, image-outside, image-unwritten, image-all, image-still, image-below}
+use Rattle.redo.proofs.HistoryLaws.{writes-from, reads-from, after-suc, run-unwritten, image-outside, image-all, image-still, image-below}
 
 pub or-none : (x y : Bool) → y ≡ false → (x || y) ≡ x
 or-none true y e = refl

@@ -1,7 +1,7 @@
 -- Where a page is dirty, some group has none directly before it.
-use Rattle.std.proofs.Common.{◌≡◌, ℕ, zero, suc, ◌<◌, Bool, true, false, ◌⊎◌, Decides, sym, refl, ap, ◌∙◌, inl, inr, arith}
+use Rattle.std.proofs.Common.{ℕ, zero, suc, ◌<◌, Bool, Decides, inl, inr, arith}
 use Rattle.std.proofs.lemmas.Bool.{both_ways, cases_eq, cases_Bool}
-use Rattle.redo.specs.WriteGraph.{Operations, Reaches, Dirty, Ready, Finite}
+use Rattle.redo.specs.WriteGraph.{Operations, Reaches, Dirty, Finite}
 use Rattle.redo.specs.Theorems.{SomeReady}
 use Rattle.redo.proofs.GraphLaws.{reach-trans, reach-from, directly_reaches}
 use Rattle.redo.proofs.ClosureLaws.{listed_below}

@@ -1,14 +1,13 @@
 -- Redo recovers.
-use Rattle.std.proofs.Common.{◌≡◌, ℕ, zero, suc, ◌+◌, ◌<◌, ◌≤◌, Bool, true, false, cond, not, ◌&&◌, ◌||◌, eqb, ltb, leb, ◌⊎◌, ◌↔◌, List, Some, None, sym, refl, ap, ◌∙◌, subst, inl, inr, arith}
+use Rattle.std.proofs.Common.{◌≡◌, ℕ, zero, suc, ◌<◌, ◌≤◌, Bool, true, false, cond, not, ◌&&◌, ◌||◌, ltb, leb, ◌⊎◌, sym, refl, ap, ◌∙◌, subst, inl, inr, arith}
 use mathlib.Core.Path.{fun_ext}
-use Rattle.std.proofs.lemmas.Bool.{both_ways, cond-true, cond-false, cases_Bool, cases_lt, cases_eq, and_parts, and_from, and_left, or_left, or_right, or_from, or_parts, or_cases, leb-true, ltb-true, lt-ltb, le-ltb, le-leb, not_from_true, not_from_false, not-true}
-use Rattle.sets.specs.Sets.{rising}
-use Rattle.redo.specs.Histories.{page_count, Page, Operation, History, reads, writes, touches, contents_of, effect_on, renewed, run, after, image, Ran}
-use Rattle.redo.specs.Prefixes.{uninstalled, Prefix, Untouched, FirstReads, Exposed, Explains, Numbered, Recoverable, Installed}
-use Rattle.redo.specs.Recovery.{every, some, AtOrAbove, Below, present, missing, redo, redone}
-use Rattle.redo.specs.Theorems.{Recovers, RedoRecovers, InstalledRecoverable}
+use Rattle.std.proofs.lemmas.Bool.{both_ways, cases_Bool, cases_lt, cases_eq, and_parts, and_from, and_left, or_left, or_right, or_from, or_cases, leb-true, ltb-true, lt-ltb, le-ltb, le-leb, not_from_false, not-true}
+use Rattle.redo.specs.Histories.{page_count, Page, History, reads, writes, touches, contents_of, effect_on, run, after, image, Ran}
+use Rattle.redo.specs.Prefixes.{uninstalled, Prefix, Untouched, Exposed, Explains, Numbered}
+use Rattle.redo.specs.Recovery.{AtOrAbove, Below, present, missing, redo}
+use Rattle.redo.specs.Theorems.{RedoRecovers, InstalledRecoverable}
 use Rattle.redo.proofs.TestLaws.{every-from, every-at, rising-like}
-use Rattle.redo.proofs.HistoryLaws.{writes-from, reads-from, after-suc, after-unwritten, run-written, run-unwritten, image-hit, image-all, image-like, image-still, after-number, image-reaches, image-below}
+use Rattle.redo.proofs.HistoryLaws.{writes-from, after-suc, run-written, run-unwritten, image-hit, image-all, image-like, image-still, image-reaches, image-below}
 
 -- the operations of I, and all below m
 abbrev until : (ℕ → Bool) → ℕ → ℕ → Bool

@@ -1,13 +1,13 @@
 -- The table of situations, by computation.
-use Rattle.std.proofs.Common.{◌≡◌, ℕ, zero, suc, ◌+◌, ◌-◌, ◌<◌, ◌≤◌, Bool, true, false, cond, not, ◌&&◌, ◌||◌, eqb, ltb, leb, ◌⊎◌, List, [], ◌∷◌, ◌++◌, length, get_or, replicate, Some, Decides, sym, refl, ap, ◌∙◌, subst, ap₂, inl, inr, arith, lit<, lit≤}
+use Rattle.std.proofs.Common.{◌≡◌, ℕ, zero, suc, ◌-◌, ◌<◌, Bool, true, false, cond, not, ◌&&◌, ◌||◌, eqb, ltb, leb, List, [], ◌∷◌, ◌++◌, length, get_or, replicate, Some, sym, refl, ap, ◌∙◌, subst, ap₂, inl, inr, arith, lit<}
 use Rattle.std.specs.List.{AllByRecursion as All}
-use Rattle.std.proofs.lemmas.Bool.{both_ways, cases_Bool, cases_eq, and_parts, and_from, and_left, and_right, or_cases, or_left, or_right, eqb-true, eq-eqb, ne_eqb, ltb-true, cond-true, cond-false, le-ltb}
-use Rattle.redo.specs.Histories.{page_count, Page, Operation, History, reads, writes, touches, contents_of, effect_on, run, after, image, GoesByReads, WellFormed, Ran}
-use Rattle.redo.specs.Prefixes.{uninstalled, Prefix, Untouched, FirstReads, Exposed, Installed}
-use Rattle.redo.specs.Recovery.{some, redo, redone}
-use Rattle.redo.specs.WriteGraph.{Operations, operations, Dirty, SameGroup, DirectlyBefore}
-use Rattle.redo.specs.Installation.{joined, stored_with}
-use Rattle.redo.specs.Situations.{none, only, either, listed, Step, fill, copy, swap, operation_of, blank, history_of, graph_of, together, in_order, GroupsAre, OrderIs, Row, Shows, bench, table, bench_history, with_41, Once41Installed, SituationsShown}
+use Rattle.std.proofs.lemmas.Bool.{both_ways, cases_eq, and_parts, and_left, and_right, or_cases, or_left, or_right, eqb-true, eq-eqb, ne_eqb, ltb-true, cond-false, le-ltb}
+use Rattle.redo.specs.Histories.{page_count, reads, writes, touches, contents_of, after, image, GoesByReads, WellFormed, Ran}
+use Rattle.redo.specs.Prefixes.{uninstalled, Prefix, Exposed, Installed}
+use Rattle.redo.specs.Recovery.{some}
+use Rattle.redo.specs.WriteGraph.{Operations, Dirty, SameGroup, DirectlyBefore}
+use Rattle.redo.specs.Installation.{joined}
+use Rattle.redo.specs.Situations.{none, only, listed, Step, fill, copy, swap, operation_of, blank, history_of, graph_of, together, in_order, Row, Shows, bench, table, bench_history, with_41, SituationsShown}
 use Rattle.redo.specs.Theorems.{Recovers}
 use Rattle.redo.proofs.InstallLaws.{uninstalled-parts}
 use Rattle.redo.proofs.GraphLaws.{reach-from, reach-to, directly_reaches}

@@ -1,5 +1,5 @@
 -- Operations on pages, ordered by number, and what they give from start pages. Sets are tests: page p is in s when s p is true.
-use Rattle.std.specs.Prelude.{◌≡◌, ℕ, zero, suc, ◌<◌, ◌≤◌, Bool, true, false, cond, not, ◌&&◌, ◌||◌, List, Some, None, Option, nat_le}
+use Rattle.std.specs.Prelude.{◌≡◌, ℕ, zero, suc, ◌<◌, ◌≤◌, Bool, true, cond, ◌&&◌, ◌||◌, List, Some, None, Option, nat_le}
 
 -- how many pages there are
 abbrev pub page_count : ℕ

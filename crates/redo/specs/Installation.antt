@@ -1,6 +1,6 @@
 -- What the engine does to installed operations and stored pages: it installs a group, runs an operation, loses operations at the end, and
 -- drops installed ones from the log.
-use Rattle.std.specs.Prelude.{◌≡◌, ℕ, suc, ◌<◌, ◌≤◌, Bool, true, false, cond, not, ◌&&◌, ◌||◌, Decides, ◌==◌}
+use Rattle.std.specs.Prelude.{ℕ, Bool, cond, ◌&&◌, ◌||◌, Decides, ◌==◌}
 use Rattle.redo.specs.Histories.{page_count, Page, Operation, History, writes, after}
 use Rattle.redo.specs.Prefixes.{uninstalled}
 use Rattle.redo.specs.Recovery.{some}

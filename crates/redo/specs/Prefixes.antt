@@ -1,6 +1,6 @@
 -- Installed operations. I is the set of the numbers of those that are installed; n is the next number.
 use Rattle.std.specs.Prelude.{◌≡◌, ℕ, ◌<◌, Bool, true, false, not, ◌&&◌, ◌⊎◌, List, nat_le, nat_lt}
-use Rattle.redo.specs.Histories.{Page, History, reads, writes, touches, contents_of, after, image}
+use Rattle.redo.specs.Histories.{Page, History, reads, writes, touches, contents_of, image}
 
 -- an operation from the first on and below n that is not in I
 abbrev pub uninstalled : History → (ℕ → Bool) → ℕ → ℕ → Bool

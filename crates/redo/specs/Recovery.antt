@@ -1,7 +1,7 @@
 -- Redo: the operations in order, each run again exactly if all pages it writes bear lower numbers.
 use Rattle.std.specs.Prelude.{◌≡◌, ℕ, zero, suc, ◌<◌, ◌≤◌, Bool, true, false, cond, not, ◌&&◌, ◌||◌, List, nat_le, nat_lt}
 use Rattle.sets.specs.Sets.{rising}
-use Rattle.redo.specs.Histories.{page_count, Page, History, writes, effect_on, run, after}
+use Rattle.redo.specs.Histories.{page_count, Page, History, writes, run}
 
 -- whether a test holds of every number below n, and of some
 unfoldable pub every : ℕ → (ℕ → Bool) → Bool

@@ -1,5 +1,5 @@
 -- Small situations, and one table of the groups and the order that the definitions give them.
-use Rattle.std.specs.Prelude.{◌≡◌, ℕ, suc, ◌-◌, ◌<◌, Bool, true, false, cond, ◌&&◌, ◌||◌, List, [], ◌∷◌, length, replicate, Some, Decides, ◌==◌, slice_index_or}
+use Rattle.std.specs.Prelude.{◌≡◌, ℕ, suc, ◌-◌, Bool, false, cond, ◌&&◌, ◌||◌, List, [], ◌∷◌, length, replicate, Some, Decides, ◌==◌, slice_index_or}
 use Rattle.std.specs.List.{AllByRecursion as All}
 use Rattle.redo.specs.Histories.{Page, Operation, History}
 use Rattle.redo.specs.Prefixes.{Prefix, Exposed, Installed}

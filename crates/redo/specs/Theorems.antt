@@ -1,8 +1,8 @@
 -- The theorems of redo recovery, each owed by a function of this crate.
 use Rattle.std.specs.Prelude.{◌≡◌, ℕ, suc, ◌<◌, ◌≤◌, Bool, true, false, not, ◌&&◌, ◌||◌, ◌⊎◌, ◌↔◌, List, Some, ◌==◌, nat_lt}
 use Rattle.sets.specs.Sets.{rising}
-use Rattle.redo.specs.Histories.{page_count, Page, Operation, History, writes, effect_on, contents_of, after, image, WellFormed, Ran}
-use Rattle.redo.specs.Prefixes.{uninstalled, Prefix, Explains, Recoverable, Installed}
+use Rattle.redo.specs.Histories.{page_count, Page, Operation, History, writes, effect_on, contents_of, after, WellFormed, Ran}
+use Rattle.redo.specs.Prefixes.{uninstalled, Recoverable, Installed}
 use Rattle.redo.specs.Recovery.{some, AtOrAbove, Below, present, missing, redo, redone}
 use Rattle.redo.specs.WriteGraph.{Operations, operations, Arrow, Reaches, Dirty, SameGroup, DirectlyBefore, Circle, Ready, Finite, GroupCount, Among}
 use Rattle.redo.specs.Installation.{IsGroup, joined, stored_with, extended, trimmed}

@@ -1,5 +1,5 @@
 -- The write graph: arrows between pages over the dirty operations, and the groups of pages that must be installed together.
-use Rattle.std.specs.Prelude.{◌≡◌, ℕ, ◌<◌, ◌≤◌, Bool, true, false, ◌⊎◌, Decides}
+use Rattle.std.specs.Prelude.{◌≡◌, ℕ, ◌<◌, ◌≤◌, Bool, true, ◌⊎◌, Decides}
 use Rattle.sets.specs.Sets.{count}
 use Rattle.redo.specs.Histories.{page_count, History, reads, writes}
 use Rattle.redo.specs.Prefixes.{uninstalled}

@@ -1,5 +1,5 @@
 -- The laws of sets of pages. Only this file looks at bits.
-use Rattle.std.proofs.Common.{◌≡◌, ℕ, zero, suc, ◌+◌, ◌-◌, ◌*◌, ◌/◌, ◌%◌, ◌^◌, ◌<◌, ◌≤◌, Bool, true, false, cond, not, ◌&&◌, ◌||◌, eqb, ltb, leb, ◌⊎◌, [], ◌∷◌, ◌++◌, length, sym, refl, ap, ◌∙◌, ap₂, inl, inr, mod-lt, pow-suc, zero-add, add-one, one-add, arith, pow_pos, pow_mono, shr-shr, shr_lt}
+use Rattle.std.proofs.Common.{◌≡◌, ℕ, zero, suc, ◌+◌, ◌-◌, ◌*◌, ◌/◌, ◌%◌, ◌^◌, ◌<◌, ◌≤◌, Bool, true, false, cond, not, ◌&&◌, ◌||◌, eqb, ltb, [], ◌∷◌, ◌++◌, length, sym, refl, ap, ◌∙◌, ap₂, inl, inr, pow-suc, zero-add, add-one, one-add, arith, pow_mono, shr-shr, shr_lt}
 use mathlib.Core.Path.{fun_ext}
 use Rattle.std.specs.List.{AllByRecursion as All}
 use Rattle.std.proofs.lemmas.List.{length-append}
@@ -7,10 +7,10 @@ use Rattle.std.proofs.ByRecursion.{All-append, All-weaker}
 use lib.Bits.{bit_and, bit_or, bit_xor, and_le_l, and_shr, or_shr, xor_shr, and_mod, or_mod, xor_mod}
 use lib.Count.{ones, ones_step, count_trailing_zeros, under}
 use lib.Dec.{eqb-zero-suc, eqb-suc-zero, eqb-suc-suc}
-use Rattle.std.proofs.lemmas.Bool.{cases_lt, cases_eq, both_ways, cond-true, cond-false, cond_both, and_from, and_parts, and_right, eqb-true, eq-eqb, ne_eqb, lt-ltb, le-ltb}
+use Rattle.std.proofs.lemmas.Bool.{cases_lt, cases_eq, both_ways, cond-true, cond-false, cond_both, and_from, and_parts, and_right, lt-ltb, le-ltb}
 use Rattle.std.proofs.lemmas.Bool.Decides.{nat_tests}
 use Rattle.std.proofs.lemmas.Nat.{one_shl}
-use Rattle.sets.specs.Sets.{has, differs, SetOf, Meet, count, rising, first, size, lowest, pages, NextPage}
+use Rattle.sets.specs.Sets.{has, differs, Meet, count, rising, first, lowest, NextPage}
 
 -- page 0, and the pages above it
 pub has-zero : (s : ℕ) → has s 0 ≡ eqb (s % 2) 1

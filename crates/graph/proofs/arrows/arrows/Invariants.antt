@@ -1,4 +1,3 @@
-use Rattle.std.proofs.Common.{◌≡◌, ℕ, ◌<◌, length}
 use Rattle.graph.proofs.ArrowLaws.{ArrowsBelow}
 use Rattle.graph.proofs.arrows.arrows.Given as goal
 

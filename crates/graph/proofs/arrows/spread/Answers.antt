@@ -1,7 +1,7 @@
 use Rattle.std.proofs.Common.{◌&&◌, ◌||◌, ap, ◌∙◌, arith, rules}
 use Rattle.sets.specs.Sets.{has}
 use Rattle.graph.specs.Rows.{leads}
-use Rattle.graph.proofs.RowLaws.{Renewed, renew-none, renew-more}
+use Rattle.graph.proofs.RowLaws.{renew-none, renew-more}
 use Rattle.graph.proofs.arrows.spread.Goals as goal
 
 pub loop-a-init : goal.loop-a-init

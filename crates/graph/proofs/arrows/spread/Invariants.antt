@@ -1,4 +1,4 @@
-use Rattle.std.proofs.Common.{ℕ, ◌&&◌, ◌||◌}
+use Rattle.std.proofs.Common.{◌&&◌, ◌||◌}
 use Rattle.sets.specs.Sets.{has}
 use Rattle.graph.specs.Rows.{leads}
 use Rattle.graph.proofs.RowLaws.{Renewed}

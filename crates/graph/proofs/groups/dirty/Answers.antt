@@ -1,4 +1,4 @@
-use Rattle.std.proofs.Common.{length, get_or, arith}
+use Rattle.std.proofs.Common.{get_or, arith}
 use Rattle.graph.specs.Ops.{nothing}
 use Rattle.graph.proofs.RowLaws.{gather_none, gather-more}
 use Rattle.graph.proofs.GroupLaws.{Written, written-dirty}

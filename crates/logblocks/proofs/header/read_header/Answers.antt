@@ -1,6 +1,6 @@
 use Rattle.std.proofs.Common.{◌≡◌, Some, None, sym, ap, ◌∙◌}
 use Rattle.std.proofs.ByRecursion.{All-from_get_or}
-use Rattle.std.proofs.lemmas.Bool.{cond-true, cond-false}
+use Rattle.std.proofs.lemmas.Bool.{cond-true}
 use Rattle.sets.specs.Words.{number, part}
 use Rattle.logblocks.specs.Blocks.{is_header_block, header_in}
 use Rattle.logblocks.proofs.BlockLaws.{header-back}

@@ -1,4 +1,3 @@
-use Rattle.std.proofs.Common.{arith}
 use Rattle.sets.proofs.SetLaws.{next-none, next_past, next-found}
 use Rattle.sets.proofs.pages.next_page.Goals as goal
 

@@ -1,7 +1,6 @@
-use Rattle.std.proofs.Common.{◌≡◌, ◌+◌, ◌-◌, get_or, take, drop, Some, None, Option, sym, refl, ap, ◌∙◌, arith}
+use Rattle.std.proofs.Common.{◌≡◌, ◌+◌, ◌-◌, get_or, take, drop, Some, None, Option, sym, ap, ◌∙◌, arith}
 use Rattle.std.proofs.ByRecursion.{All-from_get_or}
 use Rattle.std.proofs.lemmas.Bool.{cond-true}
-use Rattle.sets.specs.Words.{number, part}
 use Rattle.logblocks.specs.Blocks.{Entry, is_record_block, entry_of, record_in}
 use Rattle.logblocks.proofs.BlockLaws.{read_back}
 use Rattle.logblocks.proofs.record.Record.parse.Goals as goal

@@ -1,6 +1,5 @@
-use Rattle.std.proofs.Common.{◌≡◌, ◌+◌, ◌-◌, length, take, set, replicate, sym, refl, ap, ◌∙◌, arith, rules}
+use Rattle.std.proofs.Common.{◌≡◌, ◌+◌, ◌-◌, length, set, replicate, refl, ap, ◌∙◌, arith, rules}
 use borrow.Rule.Slice.PartMut.{put_mid}
-use Rattle.std.proofs.lemmas.List.{take_all}
 use Rattle.logblocks.specs.Blocks.{block_of, record_in}
 use Rattle.logblocks.specs.Views.{view}
 use Rattle.logblocks.proofs.BlockLaws.{write-record, write-back}
