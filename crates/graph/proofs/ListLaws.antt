@@ -1,7 +1,7 @@
 -- Lists of the dirty operations of a history.
 use Rattle.std.proofs.Common.{◌≡◌, ℕ, zero, suc, ◌<◌, Bool, true, false, cond, not, ◌&&◌, eqb, ltb, leb, List, [], ◌∷◌, ◌++◌, map, length, get_or, filter, sym, refl, ap, ◌∙◌, subst, ap₂, inl, inr, arith}
 use mathlib.Core.Path.{fun_ext}
-use Rattle.std.specs.List.{ContainsAt as Has, AllByRecursion as All}
+use Rattle.std.specs.List.{ContainsAt as Has, AllByRecursion}
 use Rattle.std.proofs.lemmas.List.{length-map, get_or-map, map_push}
 use Rattle.std.proofs.lemmas.List.Elements.{filter-append}
 use Rattle.std.proofs.ByRecursion.{All-get_or, All-from_get_or, All-append, All-push, All-weaker, all_kept_by, has_append_left, has_append_right}
@@ -31,12 +31,12 @@ rising-has f (suc n) m l e = elim (cases_eq m n) [
   | inr other ↦ has_append_left (rising f n) (cond (f n) (n ∷ []) []) m (rising-has f n m (omega arith) e)
 ]
 
-rising-all : (f : ℕ → Bool) (n : ℕ) → All (λ m. f m ≡ true) (rising f n)
+rising-all : (f : ℕ → Bool) (n : ℕ) → AllByRecursion (λ m. f m ≡ true) (rising f n)
 unfolding rising
 rising-all f zero = tt
 rising-all f (suc n) = All-append (λ m. f m ≡ true) (rising f n) (cond (f n) (n ∷ []) []) (rising-all f n) (last (f n) refl)
   where
-    last : (b : Bool) → f n ≡ b → All (λ m. f m ≡ true) (cond b (n ∷ []) [])
+    last : (b : Bool) → f n ≡ b → AllByRecursion (λ m. f m ≡ true) (cond b (n ∷ []) [])
     last true e = (e, tt)
     last false e = tt
 
@@ -111,7 +111,7 @@ listed-run ops h I n o op lists f out num rd wr = record { numbers = numbers-at;
         let sc = scope-at ops h I n lists i l in
         (λ p. sc.0 p ∙ sym (reads_same h n op m p below), λ p. sc.1 p ∙ sym (writes_same h n op m p below))
 
-    olds : All (ScopeOf (extended h n op)) ops
+    olds : AllByRecursion (ScopeOf (extended h n op)) ops
     olds = All-from_get_or (ScopeOf (extended h n op)) ops nothing old
 
     new : ScopeOf (extended h n op) o
@@ -121,7 +121,7 @@ listed-run ops h I n o op lists f out num rd wr = record { numbers = numbers-at;
     )
 
 -- numbers of what a filter keeps
-numbers-kept : (t : Op → Bool) (g : ℕ → Bool) (ops : List Op) → All (λ (o : Op). t o ≡ g o.number) ops
+numbers-kept : (t : Op → Bool) (g : ℕ → Bool) (ops : List Op) → AllByRecursion (λ (o : Op). t o ≡ g o.number) ops
     → map (λ (o : Op). o.number) (filter t ops) ≡ filter g (map (λ (o : Op). o.number) ops)
 numbers-kept t g [] all = refl
 numbers-kept t g (o ∷ ops) all = go (t o) (g o.number) all.0 (numbers-kept t g ops all.1)

@@ -1,6 +1,6 @@
 -- A list of the dirty operations of a history.
 use Rattle.std.specs.Prelude.{◌≡◌, ℕ, suc, ◌≤◌, Bool, false, not, ◌&&◌, List, [], ◌∷◌, ◌++◌, map, filter}
-use Rattle.std.specs.List.{AllByRecursion as All}
+use Rattle.std.specs.List.{AllByRecursion}
 use Rattle.sets.specs.Sets.{has, rising}
 use Rattle.redo.specs.Histories.{page_count, Operation, History, reads, writes}
 use Rattle.redo.specs.Prefixes.{uninstalled}
@@ -18,7 +18,7 @@ ScopeOf h o = ((p : ℕ) → has o.reads p ≡ reads h o.number p) × ((p : ℕ)
 -- the list has exactly the dirty operations of the history below n, by rising number
 pub record Lists (ops : List Op) (h : History) (I : ℕ → Bool) (n : ℕ) : Type 0 where
   pub numbers : map (λ (o : Op). o.number) ops ≡ rising (uninstalled h I n) n
-  pub scopes : All (ScopeOf h) ops
+  pub scopes : AllByRecursion (ScopeOf h) ops
 
 -- whether o writes a page of the set g
 abbrev pub writes_inside : ℕ → Op → Bool

@@ -1,6 +1,6 @@
 -- A quiet volume can be made clean: a flush of a ready group passes unless the power fails, and each leaves one group fewer.
 use Rattle.std.proofs.Common.{◌≡◌, ℕ, zero, suc, ◌^◌, ◌<◌, Bool, false, cond, leb, List, [], ◌∷◌, get_or, Some, None, fold, filter, Option, sym, refl, ap, ◌∙◌, subst, inl, inr, pow-suc, arith, MatchOption}
-use Rattle.std.specs.List.{AllByRecursion as All}
+use Rattle.std.specs.List.{AllByRecursion}
 use Rattle.std.proofs.ByRecursion.{All-from_get_or}
 use Rattle.std.proofs.lemmas.Bool.{both_ways, cases_Bool, and_left, cond-false, lt-leb, eq-eqb, ne_eqb}
 use Rattle.sets.specs.Sets.{has}
@@ -35,7 +35,7 @@ lt_pow (suc n) = let l = lt_pow n in let e = pow-suc 2 n in omega arith
 pub no_page : (s : ℕ) → ((p : ℕ) → has s p ≡ false) → s ≡ 0
 no_page s none = set-only s s 0 (lt_pow s) (let l = lt_pow s in omega arith) (λ p. none p ∙ sym (has-none p))
 
-kept-none : (t : Op → Bool) (ops : List Op) → All (λ o. t o ≡ false) ops → filter t ops ≡ []
+kept-none : (t : Op → Bool) (ops : List Op) → AllByRecursion (λ o. t o ≡ false) ops → filter t ops ≡ []
 kept-none t [] all = refl
 kept-none t (o ∷ ops) all = cond-false (t o) (o ∷ filter t ops) (filter t ops) all.0 ∙ kept-none t ops all.1
 

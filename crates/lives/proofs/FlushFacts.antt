@@ -1,7 +1,7 @@
 -- A flush: the book and the volume keep together, whether or not the install dies.
 use Rattle.std.proofs.Common.{◌≡◌, ℕ, zero, suc, ◌<◌, ◌≤◌, Bool, true, false, cond, not, ◌&&◌, eqb, ltb, leb, List, [], ◌∷◌, length, get_or, Some, None, filter, Option, sym, refl, ap, ◌∙◌, subst, inl, inr, arith, MatchOption}
 use mathlib.Core.Path.{fun_ext}
-use Rattle.std.specs.List.{ContainsAt as Has, AllByRecursion as All}
+use Rattle.std.specs.List.{ContainsAt as Has, AllByRecursion}
 use Rattle.std.proofs.lemmas.Bool.{both_ways, cases_lt, and_parts, and_from, or_cases, or_left, not-false, cond-true, cond-false, eqb-true, eqb-false, le-leb, ltb-true, ltb-false}
 use Rattle.sets.specs.Sets.{has, lowest}
 use Rattle.sets.proofs.SetLaws.{has-none}
@@ -61,7 +61,7 @@ numbers-none (o ∷ ops) e = absurd (let z : ◌≡◌ {A = ℕ} 0 1 = cc in ome
 highest_none : (g a : ℕ) (ops : List Op) → highest_among g a ops ≡ None → filter (counts g a) ops ≡ []
 highest_none g a ops e =
     numbers-none (filter (counts g a) ops)
-    (subst (λ (r : Option ℕ). MatchOption r (counted g a ops ≡ []) (λ m. Has (counted g a ops) m × All (λ n. n ≤ m) (counted g a ops))) e (highest_is (counted g a ops)))
+    (subst (λ (r : Option ℕ). MatchOption r (counted g a ops ≡ []) (λ m. Has (counted g a ops) m × AllByRecursion (λ n. n ≤ m) (counted g a ops))) e (highest_is (counted g a ops)))
 
 module _ (k : Meaning) (b : Book) (v : Volume) (I : ℕ → Bool) (t : ℕ) (booked : Booked k b) (kept : Kept k b I t (ends_of v)) (upheld : Upheld k b I t v) where
   abbrev h : History

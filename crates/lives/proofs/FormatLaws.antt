@@ -1,6 +1,6 @@
 -- An accepted format: the book is empty and nothing is installed.
 use Rattle.std.proofs.Common.{◌≡◌, ℕ, zero, suc, ◌+◌, ◌-◌, ◌*◌, ◌<◌, ◌≤◌, Bool, true, false, cond, not, eqb, ltb, leb, ◌⊎◌, List, [], ◌∷◌, ◌++◌, map, length, get_or, take, drop, set, replicate, Some, None, Option, sym, refl, ap, ◌∙◌, subst, inl, inr, arith, MatchOption}
-use Rattle.std.specs.List.{AllByRecursion as All}
+use Rattle.std.specs.List.{AllByRecursion}
 use Rattle.std.proofs.lemmas.List.{length-set, get_or-set_same, get_or-set_other, length-replicate, take-replicate, drop-replicate, replicate-append-replicate, map-append}
 use Rattle.std.proofs.ByRecursion.{All-append}
 use Rattle.std.proofs.lemmas.Bool.{both_ways, eqb-false, leb-true, not-false, or_parts, cond-true, cases_eq, ltb-true}
@@ -54,7 +54,7 @@ Blanking w = (w.block < 129) × (w.bytes ≡ blank)
 blank-length : length blank ≡ 256
 blank-length = length-replicate {A = ℕ} 256 0
 
-blank-writes : {m m' : Device} {ws : List Write} {o : Option Report} → Ran m ws o m' → o ≡ None → All Blanking ws → 129 ≤ block_count m
+blank-writes : {m m' : Device} {ws : List Write} {o : Option Report} → Ran m ws o m' → o ≡ None → AllByRecursion Blanking ws → 129 ≤ block_count m
     → (129 ≤ block_count m') × ((b : ℕ) → b < 129 → (block_at m b ≡ blank) ⊎ WritesBlock ws b → block_at m' b ≡ blank)
 blank-writes (done {m}) e all long = (long, λ b l. λ x. elim x [ inl is ↦ is | inr none ↦ absurd none ])
 blank-writes (stops f w) e all long = absurd (none-some _ (sym e))
@@ -87,13 +87,13 @@ writes-right : (ws : List Write) (w : Write) → WritesBlock (ws ++ w ∷ []) w.
 writes-right [] w = inl refl
 writes-right (v ∷ ws) w = inr (writes-right ws w)
 
-blanks-to : (n : ℕ) → n ≤ 129 → All Blanking (map blank_at (rising (λ _. true) n)) × ((b : ℕ) → b < n → WritesBlock (map blank_at (rising (λ _. true) n)) b)
+blanks-to : (n : ℕ) → n ≤ 129 → AllByRecursion Blanking (map blank_at (rising (λ _. true) n)) × ((b : ℕ) → b < n → WritesBlock (map blank_at (rising (λ _. true) n)) b)
 unfolding rising
 blanks-to zero l = (tt, λ b x. absurd (omega arith))
 blanks-to (suc n) l =
     let ih = blanks-to n (omega arith) in
     let e : map blank_at (rising (λ _. true) (suc n)) ≡ map blank_at (rising (λ _. true) n) ++ blank_at n ∷ [] = map-append blank_at (rising (λ _. true) n) (n ∷ []) in (
-      subst (All Blanking) (sym e) (All-append Blanking (map blank_at (rising (λ _. true) n)) (blank_at n ∷ []) ih.0 ((omega arith, refl), tt)),
+      subst (AllByRecursion Blanking) (sym e) (All-append Blanking (map blank_at (rising (λ _. true) n)) (blank_at n ∷ []) ih.0 ((omega arith, refl), tt)),
       λ b x. subst (λ (ws : List Write). WritesBlock ws b) (sym e) (elim (cases_eq b n) [
         | inl same ↦ subst (WritesBlock (map blank_at (rising (λ _. true) n) ++ blank_at n ∷ [])) (sym same) (writes-right (map blank_at (rising (λ _. true) n)) (blank_at n))
         | inr other ↦ writes-left (map blank_at (rising (λ _. true) n)) (blank_at n ∷ []) b (ih.1 b (omega arith))

@@ -1,6 +1,6 @@
 -- Groups counted through a life that goes on without a run or a mount: each accepted flush leaves one fewer, and nothing else changes them.
 use Rattle.std.proofs.Common.{◌≡◌, ℕ, suc, ◌+◌, Bool, true, false, cond, not, ◌&&◌, ◌||◌, eqb, leb, List, length, Some, None, Ok, Err, Decides, Option, sym, refl, ap, ◌∙◌, subst, ap₂, inl, inr, arith, MatchOption}
-use Rattle.std.specs.List.{AllByRecursion as All}
+use Rattle.std.specs.List.{AllByRecursion}
 use Rattle.std.proofs.lemmas.Bool.{both_ways, cases_Bool, and_parts, and_from, or_cases, or_left, or_right, not-true, not_from_false, leb-true, le-leb}
 use Rattle.sets.specs.Sets.{has, count, size}
 use Rattle.faults.specs.declared.fault.Fault.TheVariants.{NoSuchPage, PowerLost}
@@ -233,7 +233,7 @@ module _ (k : Meaning) (law : Lawful k) (wf : AllWellFormed k) (recovers : (e : 
     all : left + flushesIn es ≡ j
     tracks : Tracks w s left
 
-  goes-tracks : {s₀ s : State} {es : List Event} → GoesOn k s₀ es s → All (λ e. neither_run_nor_mount e ≡ true) es → (b : Book) → Keeps k b s₀ → (j : ℕ)
+  goes-tracks : {s₀ s : State} {es : List Event} → GoesOn k s₀ es s → AllByRecursion (λ e. neither_run_nor_mount e ≡ true) es → (b : Book) → Keeps k b s₀ → (j : ℕ)
       → Tracks (after (history_of k b) (next_of b)) s₀ j → Tracking (after (history_of k b) (next_of b)) j es s
   goes-tracks here no_run b keeps j t = record { book = b; keeps = keeps; same = refl; left = j; all = omega arith; tracks = t }
   goes-tracks (then {es} {e} {s} {s₁} {s'} goes step) no_run b keeps j t =
@@ -249,7 +249,7 @@ module _ (k : Meaning) (law : Lawful k) (wf : AllWellFormed k) (recovers : (e : 
       }
 
   pub flushed-clean : (v : Volume) (es : List Event) (s : State) (b : Book) → Keeps k b (up v) → v.halted ≡ None → GoesOn k (up v) es s
-      → All (λ e. neither_run_nor_mount e ≡ true) es → Tracked (after (history_of k b) (next_of b)) v (flushesIn es) → Clean (history_of k b) (next_of b) s
+      → AllByRecursion (λ e. neither_run_nor_mount e ≡ true) es → Tracked (after (history_of k b) (next_of b)) v (flushesIn es) → Clean (history_of k b) (next_of b) s
   flushed-clean v es s b keeps well goes no_run c =
       let t = goes-tracks goes no_run b keeps (flushesIn es) c in
       ends s (subst (Tracks (after (history_of k b) (next_of b)) s) (let a = t.all in let z : t.left ≡ 0 = omega arith in z) t.tracks)

@@ -1,7 +1,7 @@
 -- Lists of blocks that wait, and of numbers that rise.
 use Rattle.std.proofs.Common.{◌≡◌, ℕ, zero, suc, ◌+◌, ◌-◌, ◌<◌, ◌≤◌, Bool, true, false, cond, ◌⊎◌, List, [], ◌∷◌, ◌++◌, length, get_or, sym, refl, ap, ◌∙◌, subst, inl, inr, arith}
 use Rattle.std.proofs.lemmas.Bool.{both_ways, cases_eq, cases_lt}
-use Rattle.std.specs.List.{AllByRecursion as All}
+use Rattle.std.specs.List.{AllByRecursion}
 use Rattle.sets.specs.Sets.{count, rising}
 use Rattle.sets.proofs.SetLaws.{rising-all}
 use Rattle.lives.proofs.Keeping.{Waits}
@@ -58,5 +58,5 @@ rising-first f (suc n) = go (rising f n) refl (rising-first f n) (f n) refl
     go (x ∷ xs) e ih b en = record {
       within = let w = ih.within in omega arith;
       none_below = ih.none_below;
-      passes = λ l. (subst (All (λ p. (p < n) × (f p ≡ true))) e (rising-all f n)).0.1;
+      passes = λ l. (subst (AllByRecursion (λ p. (p < n) × (f p ≡ true))) e (rising-all f n)).0.1;
     }

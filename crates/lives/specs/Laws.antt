@@ -1,6 +1,6 @@
 -- The law: what holds at every point of every life of a volume.
 use Rattle.std.specs.Prelude.{◌≡◌, ℕ, ◌<◌, ◌≤◌, Bool, true, List, length, Some, None, Option}
-use Rattle.std.specs.List.{AllByRecursion as All}
+use Rattle.std.specs.List.{AllByRecursion}
 use Rattle.faults.specs.Faults.{Report}
 use Rattle.kinds.specs.Kinds.{Meaning, Lawful}
 use Rattle.redo.specs.Histories.{History, after}
@@ -64,7 +64,7 @@ pub record Flushable (k : Meaning) (h : History) (n : ℕ) (v : Volume) : Type 0
   pub groups : ℕ
   pub counted : GroupCount (dirty_in v) groups
   -- and however the life goes on without a run or a mount, as many accepted flushes leave all pages clean
-  pub all_flushed : (es : List Event) (s : State) → GoesOn k (up v) es s → All (λ e. neither_run_nor_mount e ≡ true) es → flushes es ≡ groups → Clean h n s
+  pub all_flushed : (es : List Event) (s : State) → GoesOn k (up v) es s → AllByRecursion (λ e. neither_run_nor_mount e ≡ true) es → flushes es ≡ groups → Clean h n s
 
 -- what is asked of a state that is up and well
 abbrev pub IfWell : (Volume → Type 0) → State → Type 0

@@ -1,7 +1,7 @@
 -- Blocks and what they say, both ways; and a block written front to back.
 use Rattle.std.proofs.Common.{◌≡◌, ℕ, zero, suc, ◌+◌, ◌-◌, ◌^◌, ◌<◌, ◌≤◌, true, not, ◌&&◌, eqb, leb, List, [], ◌∷◌, ◌++◌, length, get_or, take, drop, set, replicate, Some, None, codes, Option, sym, refl, ap, ◌∙◌, ap₂, inl, inr, arith}
 use borrow.Rule.Slice.PartMut.{put_mid}
-use Rattle.std.specs.List.{AllByRecursion as All}
+use Rattle.std.specs.List.{AllByRecursion}
 use Rattle.std.proofs.ByRecursion.{All-take, All-drop}
 use Rattle.std.proofs.lemmas.List.{append_assoc, length-take, length-drop, length-append, length-replicate, take-append-drop, take_all, take_at, drop_at, drop-drop, drop_more, drop-replicate, get_or_at, set_at}
 use Rattle.std.proofs.lemmas.Bool.{and_parts, and_from, eqb-true, eq-eqb, leb-true, le-leb, cond-true, cond-false, cases_Bool}
@@ -39,10 +39,10 @@ rejoin a k b bs rest e r =
 part_length : (a k : ℕ) (bs : List ℕ) → a + k ≤ length bs → length (part a k bs) ≡ k
 part_length a k bs l = simp (length-take, length-drop) (omega arith)
 
-part_bytes : (a k : ℕ) (bs : List ℕ) → All (λ b. b < 256) bs → All (λ b. b < 256) (part a k bs)
+part_bytes : (a k : ℕ) (bs : List ℕ) → AllByRecursion (λ b. b < 256) bs → AllByRecursion (λ b. b < 256) (part a k bs)
 part_bytes a k bs all = All-take (λ b. b < 256) k (drop a bs) (All-drop (λ b. b < 256) a bs all)
 
-part-word : (a k : ℕ) (bs : List ℕ) → a + k ≤ length bs → All (λ b. b < 256) bs → bytes_of k (number (part a k bs)) ≡ part a k bs
+part-word : (a k : ℕ) (bs : List ℕ) → a + k ≤ length bs → AllByRecursion (λ b. b < 256) bs → bytes_of k (number (part a k bs)) ≡ part a k bs
 part-word a k bs l all = bytes-number k (part a k bs) (part_length a k bs l) (part_bytes a k bs all)
 
 -- the part behind p
@@ -52,14 +52,14 @@ part_at p q r a k lp lq = ap (take k) (drop_at p (q ++ r) a lp) ∙ take_at q r 
 -- ---- records
 
 -- what a block says is written as that block
-pub record_back : (bs : List ℕ) → All (λ b. b < 256) bs → is_record_block bs ≡ true → block_of (entry_of bs) ≡ bs
+pub record_back : (bs : List ℕ) → AllByRecursion (λ b. b < 256) bs → is_record_block bs ≡ true → block_of (entry_of bs) ≡ bs
 unfolding block_of
 record_back bs all is =
     let p = and_parts (eqb (length bs) 256) (leb (get_or bs 20 0) 232 && zeros (drop (21 + get_or bs 20 0) bs)) is in
     let q = and_parts (leb (get_or bs 20 0) 232) (zeros (drop (21 + get_or bs 20 0) bs)) p.1 in
     go bs (get_or bs 20 0) 4 12 20 21 refl refl refl refl refl (eqb-true (length bs) 256 p.0) (leb-true (get_or bs 20 0) 232 q.0) q.1 all
   where
-    go : (bs : List ℕ) (n a b c d : ℕ) → a ≡ 4 → b ≡ 12 → c ≡ 20 → d ≡ 21 → get_or bs c 0 ≡ n → length bs ≡ 256 → n ≤ 232 → zeros (drop (d + n) bs) ≡ true → All (λ b. b < 256) bs
+    go : (bs : List ℕ) (n a b c d : ℕ) → a ≡ 4 → b ≡ 12 → c ≡ 20 → d ≡ 21 → get_or bs c 0 ≡ n → length bs ≡ 256 → n ≤ 232 → zeros (drop (d + n) bs) ≡ true → AllByRecursion (λ b. b < 256) bs
         → (bytes_of 4 (number (part 0 4 bs)) ++ (bytes_of 8 (number (part a 8 bs)) ++ bytes_of 8 (number (part b 8 bs)))) ++ (length (part d n bs) ∷ (part d n bs ++ replicate (235 - length (part d n bs)) 0)) ≡ bs
     go bs n a b c d ea eb ec ed g len le z all =
         let ln : length (part d n bs) ≡ n = part_length d n bs (omega arith) in
@@ -76,7 +76,7 @@ record_back bs all is =
         ∙ ap₂ ◌++◌ w1 (ap₂ ◌++◌ w2 r3 ∙ rejoin b 8 c bs (drop c bs) (omega arith) refl) ∙ rejoin a 8 b bs (drop b bs) (omega arith) refl)
         ∙ rejoin 0 4 a bs (drop a bs) (omega arith) refl
 
-pub read_back : (bs : List ℕ) → All (λ b. b < 256) bs → (e : Entry) → record_in bs ≡ Some e → block_of e ≡ bs
+pub read_back : (bs : List ℕ) → AllByRecursion (λ b. b < 256) bs → (e : Entry) → record_in bs ≡ Some e → block_of e ≡ bs
 read_back bs all e r = elim (cases_Bool (is_record_block bs)) [
   | inl is ↦ let same : e ≡ entry_of bs = some_same e (entry_of bs) (sym r ∙ cond-true (is_record_block bs) (Some (entry_of bs)) None is) in ap block_of same ∙ record_back bs all is
   | inr isnt ↦ absurd (none-some e (sym r ∙ cond-false (is_record_block bs) (Some (entry_of bs)) None isnt))
@@ -131,7 +131,7 @@ write-back e hn hr hw hb =
 
 -- ---- the header
 
-pub header-back : (bs : List ℕ) → All (λ b. b < 256) bs → (n : ℕ) → header_in bs ≡ Some n → header_of n ≡ bs
+pub header-back : (bs : List ℕ) → AllByRecursion (λ b. b < 256) bs → (n : ℕ) → header_in bs ≡ Some n → header_of n ≡ bs
 unfolding header_of
 header-back bs all n r = elim (cases_Bool (is_header_block bs)) [
   | inl is ↦ let e : n ≡ number (part 4 4 bs) = some_same n (number (part 4 4 bs)) (sym r ∙ cond-true (is_header_block bs) (Some (number (part 4 4 bs))) None is) in ap header_of e ∙ whole is

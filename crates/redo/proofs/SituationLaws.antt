@@ -1,6 +1,6 @@
 -- The table of situations, by computation.
 use Rattle.std.proofs.Common.{◌≡◌, ℕ, zero, suc, ◌-◌, ◌<◌, Bool, true, false, cond, not, ◌&&◌, ◌||◌, eqb, ltb, leb, List, [], ◌∷◌, ◌++◌, length, get_or, replicate, Some, sym, refl, ap, ◌∙◌, subst, ap₂, inl, inr, arith, lit<}
-use Rattle.std.specs.List.{AllByRecursion as All}
+use Rattle.std.specs.List.{AllByRecursion}
 use Rattle.std.proofs.lemmas.Bool.{both_ways, cases_eq, and_parts, and_left, and_right, or_cases, or_left, or_right, eqb-true, eq-eqb, ne_eqb, ltb-true, cond-false, le-ltb}
 use Rattle.redo.specs.Histories.{page_count, reads, writes, touches, contents_of, after, image, GoesByReads, WellFormed, Ran}
 use Rattle.redo.specs.Prefixes.{uninstalled, Prefix, Exposed, Installed}
@@ -211,7 +211,7 @@ every-row : List Row → Bool
 every-row [] = true
 every-row (r ∷ rs) = shown r && every-row rs
 
-rows_show : (rs : List Row) → every-row rs ≡ true → All Shows rs
+rows_show : (rs : List Row) → every-row rs ≡ true → AllByRecursion Shows rs
 unfolding every-row
 rows_show [] e = tt
 rows_show (r ∷ rs) e = let u = and_parts (shown r) (every-row rs) e in (row_shows r u.0, rows_show rs u.1)

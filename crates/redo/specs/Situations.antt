@@ -1,6 +1,6 @@
 -- Small situations, and one table of the groups and the order that the definitions give them.
 use Rattle.std.specs.Prelude.{◌≡◌, ℕ, suc, ◌-◌, Bool, false, cond, ◌&&◌, ◌||◌, List, [], ◌∷◌, length, replicate, Some, Decides, ◌==◌, slice_index_or}
-use Rattle.std.specs.List.{AllByRecursion as All}
+use Rattle.std.specs.List.{AllByRecursion}
 use Rattle.redo.specs.Histories.{Page, Operation, History}
 use Rattle.redo.specs.Prefixes.{Prefix, Exposed, Installed}
 use Rattle.redo.specs.Recovery.{redo, redone}
@@ -105,4 +105,4 @@ pub record Once41Installed : Type 0 where
 
 -- every row of the table shows the groups and the order of its steps
 abbrev pub SituationsShown : Type 0
-SituationsShown = All Shows table × Once41Installed
+SituationsShown = AllByRecursion Shows table × Once41Installed

@@ -1,7 +1,7 @@
 -- The laws of sets of pages. Only this file looks at bits.
 use Rattle.std.proofs.Common.{◌≡◌, ℕ, zero, suc, ◌+◌, ◌-◌, ◌*◌, ◌/◌, ◌%◌, ◌^◌, ◌<◌, ◌≤◌, Bool, true, false, cond, not, ◌&&◌, ◌||◌, eqb, ltb, [], ◌∷◌, ◌++◌, length, sym, refl, ap, ◌∙◌, ap₂, inl, inr, pow-suc, zero-add, add-one, one-add, arith, pow_mono, shr-shr, shr_lt}
 use mathlib.Core.Path.{fun_ext}
-use Rattle.std.specs.List.{AllByRecursion as All}
+use Rattle.std.specs.List.{AllByRecursion}
 use Rattle.std.proofs.lemmas.List.{length-append}
 use Rattle.std.proofs.ByRecursion.{All-append, All-weaker}
 use lib.Bits.{bit_and, bit_or, bit_xor, and_le_l, and_shr, or_shr, xor_shr, and_mod, or_mod, xor_mod}
@@ -306,7 +306,7 @@ rising-count f (suc n) = length-append (rising f n) (cond (f n) (n ∷ []) []) �
     out true = refl
     out false = refl
 
-pub rising-all : (f : ℕ → Bool) (n : ℕ) → All (λ p. (p < n) × (f p ≡ true)) (rising f n)
+pub rising-all : (f : ℕ → Bool) (n : ℕ) → AllByRecursion (λ p. (p < n) × (f p ≡ true)) (rising f n)
 unfolding rising
 rising-all f zero = tt
 rising-all f (suc n) =
@@ -314,7 +314,7 @@ rising-all f (suc n) =
     (All-weaker (λ p. (p < n) × (f p ≡ true)) (λ p. (p < suc n) × (f p ≡ true)) (λ p h. (omega arith, h.1)) (rising f n) (rising-all f n))
     (here (f n) refl)
   where
-    here : (t : Bool) → f n ≡ t → All (λ p. (p < suc n) × (f p ≡ true)) (cond t (n ∷ []) [])
+    here : (t : Bool) → f n ≡ t → AllByRecursion (λ p. (p < suc n) × (f p ≡ true)) (cond t (n ∷ []) [])
     here true e = ((omega arith, e), tt)
     here false e = tt
 

@@ -1,7 +1,7 @@
 -- The laws of numbers in bytes.
 use Rattle.std.proofs.Common.{◌≡◌, ℕ, zero, suc, ◌+◌, ◌-◌, ◌*◌, ◌/◌, ◌%◌, ◌^◌, ◌<◌, min, List, [], ◌∷◌, ◌++◌, length, get_or, take, drop, replicate, sym, refl, ap, ◌∙◌, ap₂, inl, inr, pow-suc, arith}
 use borrow.Rule.Slice.PartMut.{put_mid}
-use Rattle.std.specs.List.{AllByRecursion as All}
+use Rattle.std.specs.List.{AllByRecursion}
 use Rattle.std.proofs.lemmas.List.{length-take, length-drop, length-append, length-replicate, take_all, drop_all, drop-drop, drop-replicate}
 use Rattle.std.proofs.lemmas.Bool.{cases_lt}
 use Rattle.sets.specs.Words.{number, bytes_of, part, over}
@@ -96,7 +96,7 @@ number-bytes (suc n) x h =
     omega arith
 
 -- bytes are those of their number
-pub bytes-number : (n : ℕ) (bs : List ℕ) → length bs ≡ n → All (λ b. b < 256) bs → bytes_of n (number bs) ≡ bs
+pub bytes-number : (n : ℕ) (bs : List ℕ) → length bs ≡ n → AllByRecursion (λ b. b < 256) bs → bytes_of n (number bs) ≡ bs
 bytes-number zero [] e a = refl
 bytes-number zero (b ∷ bs) e a = absurd (omega arith)
 bytes-number (suc n) [] e a = absurd (omega arith)

@@ -1,6 +1,6 @@
 -- Listed operations: those that write into a set, and the highest number of some.
 use Rattle.std.proofs.Common.{◌≡◌, ℕ, ◌+◌, ◌^◌, ◌<◌, ◌≤◌, max, Bool, true, false, cond, not, ◌&&◌, ◌⊎◌, List, [], ◌∷◌, ◌++◌, length, get_or, take, set, Some, None, Decides, fold, filter, Option, sym, refl, ap, ◌∙◌, subst, inl, inr, arith, MatchOption}
-use Rattle.std.specs.List.{ContainsAt as Has, AllByRecursion as All}
+use Rattle.std.specs.List.{ContainsAt as Has, AllByRecursion}
 use Rattle.std.proofs.lemmas.List.Elements.{filter_more}
 use Rattle.std.proofs.ByRecursion.{has_append_right}
 use Rattle.std.proofs.lemmas.List.Filters.{FiltersInPlace, FiltersInPlace-more_no, FiltersInPlace-more_set}
@@ -51,7 +51,7 @@ highest_more g a ops i d l =
     last xs o false = ap (λ (ys : List Op). fold higher None (numbers ys)) (append-nil xs)
 
 -- the highest of m and some numbers
-top : (ns : List ℕ) (m : ℕ) → (k : ℕ) × (fold higher (Some m) ns ≡ Some k) × (m ≤ k) × All (λ n. n ≤ k) ns × ((k ≡ m) ⊎ Has ns k)
+top : (ns : List ℕ) (m : ℕ) → (k : ℕ) × (fold higher (Some m) ns ≡ Some k) × (m ≤ k) × AllByRecursion (λ n. n ≤ k) ns × ((k ≡ m) ⊎ Has ns k)
 top [] m = (m, refl, omega arith, tt, inl refl)
 top (n ∷ ns) m =
     let t = top ns (max m n) in
@@ -70,11 +70,11 @@ top (n ∷ ns) m =
     )
 
 -- the highest of some numbers is one of them, and none is higher
-pub highest_is : (ns : List ℕ) → MatchOption (fold higher None ns) (ns ≡ []) (λ m. Has ns m × All (λ n. n ≤ m) ns)
+pub highest_is : (ns : List ℕ) → MatchOption (fold higher None ns) (ns ≡ []) (λ m. Has ns m × AllByRecursion (λ n. n ≤ m) ns)
 highest_is [] = refl
 highest_is (n ∷ ns) =
     let t = top ns n in
-    subst (λ (r : Option ℕ). MatchOption r (n ∷ ns ≡ []) (λ m. Has (n ∷ ns) m × All (λ x. x ≤ m) (n ∷ ns))) (sym t.1) (
+    subst (λ (r : Option ℕ). MatchOption r (n ∷ ns ≡ []) (λ m. Has (n ∷ ns) m × AllByRecursion (λ x. x ≤ m) (n ∷ ns))) (sym t.1) (
       elim t.4 [
         | inl is ↦ (0, omega arith, λ d. sym is)
         | inr in' ↦ has_append_right (n ∷ []) ns t.0 in'

@@ -1,6 +1,6 @@
 -- The dirty operations that a volume lists.
 use Rattle.std.specs.Prelude.{◌≡◌, ℕ, ◌≤◌, max, Bool, cond, not, ◌&&◌, List, [], ◌∷◌, ◌++◌, map, length, take, Some, None, fold, filter, Option, MatchOption, nat_le, nat_lt, slice_index_or}
-use Rattle.std.specs.List.{ContainsAt as Has, AllByRecursion as All}
+use Rattle.std.specs.List.{ContainsAt as Has, AllByRecursion}
 use Rattle.graph.specs.declared.op.Op.{Op}
 use Rattle.graph.specs.Listing.{writes_inside}
 use Rattle.tables.specs.declared.dirty_ops.DirtyOps.{DirtyOps}
@@ -45,4 +45,4 @@ highest_among g a ops = fold higher None (counted g a ops)
 
 -- r is one of those numbers and none is higher; or there are none
 abbrev pub HighestIn : ℕ → ℕ → List Op → Option ℕ → Type 0
-HighestIn g a ops r = MatchOption r (counted g a ops ≡ []) (λ m. Has (counted g a ops) m × All (λ n. n ≤ m) (counted g a ops))
+HighestIn g a ops r = MatchOption r (counted g a ops ≡ []) (λ m. Has (counted g a ops) m × AllByRecursion (λ n. n ≤ m) (counted g a ops))

@@ -1,6 +1,6 @@
 -- A mount recovers.
 use Rattle.std.proofs.Common.{◌≡◌, ℕ, zero, suc, ◌+◌, ◌-◌, ◌<◌, ◌≤◌, Bool, true, false, cond, not, ◌&&◌, eqb, ltb, leb, List, [], ◌∷◌, ◌++◌, Some, None, Ok, Option, sym, refl, ap, ◌∙◌, subst, ap₂, arith}
-use Rattle.std.specs.List.{flat_map, AllByRecursion as All}
+use Rattle.std.specs.List.{flat_map, AllByRecursion}
 use Rattle.std.proofs.ByRecursion.{All-weaker}
 use Rattle.std.proofs.lemmas.Bool.{and_left, lt-leb, cond-false}
 use Rattle.sets.specs.Sets.{has, count, rising, pages}
@@ -140,7 +140,7 @@ mount-recovers k law e h I n long holds ran rec =
 -- ---- what a kind's operations are owed
 
 -- contents that are the same on a list of pages are the same in a row
-joined_same : (s t : ℕ → List ℕ) (ps : List ℕ) → All (λ p. s p ≡ t p) ps → flat_map s ps ≡ flat_map t ps
+joined_same : (s t : ℕ → List ℕ) (ps : List ℕ) → AllByRecursion (λ p. s p ≡ t p) ps → flat_map s ps ≡ flat_map t ps
 joined_same s t [] all = refl
 joined_same s t (p ∷ ps) all = ap₂ ◌++◌ all.0 (joined_same s t ps all.1)
 

@@ -1,7 +1,7 @@
 -- Redo of one record, as the history of the log's operations has it.
 use Rattle.std.proofs.Common.{◌≡◌, ℕ, suc, ◌+◌, ◌-◌, ◌<◌, ◌≤◌, Bool, true, false, cond, not, ◌&&◌, ◌||◌, eqb, ltb, leb, List, [], ◌∷◌, ◌++◌, map, Some, None, Ok, Err, Result, sym, refl, ap, ◌∙◌, ap₂, arith}
 use mathlib.Core.Path.{fun_ext}
-use Rattle.std.specs.List.{flat_map, AllByRecursion as All}
+use Rattle.std.specs.List.{flat_map, AllByRecursion}
 use Rattle.std.proofs.lemmas.List.{append-nil, map_push}
 use Rattle.std.proofs.ByRecursion.{All-push}
 use Rattle.std.proofs.lemmas.Bool.{eqb-true, and_parts, le-leb, lt-ltb, not_from_true, not_from_false, cond-true, cond-false}
@@ -111,7 +111,7 @@ rising-hit f m e = ap (λ b. rising f m ++ cond b (m ∷ []) []) e
 pub record Come (h : History) (I : ℕ → Bool) (n : ℕ) (w : ℕ → Page) (m : ℕ) (s : Redone) : Type 0 where
   pub held : (p : ℕ) → page_of (s.images p) ≡ redo h m w p
   pub numbers : map (λ (o : Op). o.number) s.ops ≡ rising (uninstalled h I n) m
-  pub scopes : All (ScopeOf h) s.ops
+  pub scopes : AllByRecursion (ScopeOf h) s.ops
 
 -- a result that has come so far
 abbrev pub Comes : History → (ℕ → Bool) → ℕ → (ℕ → Page) → ℕ → Result Redone Report → Type 0
