@@ -7,16 +7,17 @@ use Rattle.stores.specs.Stores.{Store, Installed}
 use Rattle.graph.specs.declared.op.Op.{Op}
 use Rattle.tables.specs.DirtyOps.{kept}
 use Rattle.volume.specs.Working.{in_row}
+use Rattle.volume.specs.declared.status.Status.TheVariants.{Well}
 use Rattle.volume.specs.Volumes.{Volume, Told, noted}
 use Rattle.volume.specs.Flushing.{flush_check, GroupInstalled, FlushedWell, Flushed}
 use Rattle.volume.proofs.TrimLaws.{well-call}
 
 -- the volume with another store, and with other dirty operations
 abbrev pub with_pages : Store → (ℕ → List ℕ) → Volume → Volume
-with_pages s plan v = record { log = v.log; store = s; plan = plan; images = v.images; waiting = v.waiting; dirty = v.dirty; first = v.first; next = v.next; halted = v.halted }
+with_pages s plan v = record { log = v.log; store = s; plan = plan; images = v.images; waiting = v.waiting; dirty = v.dirty; first = v.first; next = v.next; status = v.status }
 
 abbrev pub with_dirty : List Op → Volume → Volume
-with_dirty ops v = record { log = v.log; store = v.store; plan = v.plan; images = v.images; waiting = v.waiting; dirty = ops; first = v.first; next = v.next; halted = v.halted }
+with_dirty ops v = record { log = v.log; store = v.store; plan = v.plan; images = v.images; waiting = v.waiting; dirty = ops; first = v.first; next = v.next; status = v.status }
 
 module _ (v v₁ : Volume) (o : Option Report) (group : ℕ) (bytes : List ℕ) (s : Store) (plan : ℕ → List ℕ) (row : in_row v.images ≡ bytes)
     (done : Installed v.store (v.plan group) group bytes o s) (after : v₁ ≡ noted o (with_pages s plan v)) where
@@ -52,7 +53,7 @@ module _ (v v' : Volume) (p group before : ℕ) where
     call = subst (λ x. MatchOption x (GroupInstalled v group o v') (λ f. (o ≡ Some f) × (v' ≡ v))) e done;
   }
 
-pub flush-well : (v v' : Volume) (p group : ℕ) (o : Option Report) → v.halted ≡ None → p < 64 → FlushedWell v p group o v' → Flushed v p group o v'
+pub flush-well : (v v' : Volume) (p group : ℕ) (o : Option Report) → v.status ≡ Well → p < 64 → FlushedWell v p group o v' → Flushed v p group o v'
 flush-well v v' p group o w l x =
     well-call v v' o (cond (leb 64 p) ((o ≡ Some (report (NoSuchPage p))) × (v' ≡ v)) (FlushedWell v p group o v')) w
     (subst (λ t. cond t ((o ≡ Some (report (NoSuchPage p))) × (v' ≡ v)) (FlushedWell v p group o v')) (sym (lt-leb 64 p l)) x)

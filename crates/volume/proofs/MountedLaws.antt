@@ -1,7 +1,7 @@
 -- A mount reads the same of ends that were powered on before.
 use Rattle.std.proofs.Common.{◌≡◌, ℕ, zero, suc, ◌+◌, ◌-◌, Bool, cond, not, ◌&&◌, eqb, List, [], replicate, Some, None, Ok, Err, Option, Result, sym, refl, ap, ◌∙◌, ap₂}
 use Rattle.faults.specs.declared.fault.Fault.{Fault}
-use Rattle.faults.specs.declared.fault.Fault.TheVariants.{TooShort}
+use Rattle.faults.specs.declared.fault.Fault.TheVariants.{NoSuchPage, NoSuchBlock, WrongLength, PowerLost, BodyRefused, WaitingFull, LogFull, NumbersSpent, PagesRefused, PageClean, GroupBefore, RecordWaiting, BadHeader, TooShort, BadRecord, SetsDiffer, PartlyInstalled, NumberAhead, RedoRefused, RootFull, NotFilePage, NotTreePage}
 use Rattle.faults.specs.Faults.{Report, report}
 use Rattle.media.specs.Media.{Device, block_at, powered}
 use Rattle.stores.specs.Stores.{Store, State, Live, Dead, Short, powered as revived}
@@ -16,9 +16,9 @@ use Rattle.volume.specs.declared.status.Status.TheVariants.{Halted}
 use Rattle.volume.specs.Working.{image_at, taken}
 use Rattle.volume.specs.LogReading.{last_number, bears, end_of}
 use Rattle.volume.specs.Volumes.{Ends, Volume, or_else}
-use Rattle.volume.specs.Models.{halted_by}
+use Rattle.volume.specs.Statuses.{fault_of}
 use Rattle.volume.specs.Formatting.{too_short}
-use Rattle.volume.specs.Mounting.{entry_at, Redone, record_redone, and_then, records_redone, records_fault, ahead_fault, unless_fault, recovered_from, mounted_halted, mounted_by, mounted_at, mounted}
+use Rattle.volume.specs.Mounting.{entry_at, Redone, record_redone, and_then, records_redone, records_fault, ahead_fault, unless_fault, recovered_from, blank_pages, mounted_halted, mounted_by, mounted_at, mounted}
 use Rattle.volume.specs.Recovering.{ends_of, up_by}
 
 end_powered : (m : Device) (n k : ℕ) → end_of (powered m) n k ≡ end_of m n k
@@ -99,12 +99,37 @@ module _ (waits : List (List ℕ)) (x : Recovered) (status : Status) where
     dirty = dirty x.dirty;
     first = x.first;
     next = x.next;
-    halted = halted_by status;
+    status = status;
   }
 
 pub built-none : (waits : List (List ℕ)) (x : Recovered) (status : Status) (m : Device) (s : Store) (plan : ℕ → List ℕ) → waits ≡ []
     → built waits x status (powered m) (revived s) plan ≡ up_by (ends_of m s plan) x status
 built-none waits x status m s plan e = ap (λ w. built w x status (powered m) (revived s) plan) e
+
+-- each fault is the one that its report tells
+pub fault-back : (f : Fault) → fault_of (report f) ≡ f
+fault-back (NoSuchPage p) = refl
+fault-back (NoSuchBlock b) = refl
+fault-back (WrongLength n) = refl
+fault-back (PowerLost b) = refl
+fault-back (BodyRefused c) = refl
+fault-back WaitingFull = refl
+fault-back LogFull = refl
+fault-back (NumbersSpent n) = refl
+fault-back (PagesRefused c) = refl
+fault-back (PageClean p) = refl
+fault-back (GroupBefore p) = refl
+fault-back (RecordWaiting n) = refl
+fault-back BadHeader = refl
+fault-back TooShort = refl
+fault-back (BadRecord n c) = refl
+fault-back (SetsDiffer n) = refl
+fault-back (PartlyInstalled n) = refl
+fault-back (NumberAhead p) = refl
+fault-back (RedoRefused n c) = refl
+fault-back RootFull = refl
+fault-back (NotFilePage p) = refl
+fault-back (NotTreePage p) = refl
 
 -- a refused mount has blank pages and no operations
 pub halted-blank : (e : Ends) (pages : WorkingPages) (ops : DirtyOps) (f : Fault) → pages.images ≡ replicate 16384 0 → dirty ops ≡ []
@@ -119,5 +144,16 @@ halted-blank e pages ops f ep eo =
       dirty = o;
       first = 1;
       next = 1;
-      halted = Some (report f);
+      status = Halted f;
     }) ep eo
+    ∙ ap (λ g. record {
+      log = powered e.log;
+      store = revived e.store;
+      plan = e.plan;
+      images = blank_pages;
+      waiting = [];
+      dirty = [];
+      first = 1;
+      next = 1;
+      status = Halted g;
+    }) (sym (fault-back f))

@@ -8,7 +8,8 @@ use Rattle.stores.specs.Stores.{Store, Installed}
 use Rattle.graph.specs.declared.op.Op.{Op}
 use Rattle.tables.specs.DirtyOps.{kept, highest_among}
 use Rattle.volume.specs.Working.{in_row}
-use Rattle.volume.specs.Volumes.{Volume, Told, halting}
+use Rattle.volume.specs.Statuses.{halting}
+use Rattle.volume.specs.Volumes.{Volume, Told}
 use Rattle.volume.specs.Forcing.{ByStatus}
 
 -- the first number that is not in the log yet: that of the first record that waits
@@ -41,7 +42,7 @@ with_store s plan group o v = record {
   dirty = still_dirty o group v.dirty;
   first = v.first;
   next = v.next;
-  halted = halting v.halted o;
+  status = halting v.status o;
 }
 
 -- The group's pages, and no others, are installed in one install, with their working images. Which blocks the next install writes is the

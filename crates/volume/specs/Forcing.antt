@@ -7,7 +7,8 @@ use Rattle.logblocks.specs.Blocks.{header_of}
 use Rattle.tables.specs.DirtyOps.{first_number}
 use Rattle.volume.specs.Working.{number_of}
 use Rattle.volume.specs.LogReading.{place_of}
-use Rattle.volume.specs.Volumes.{Volume, halting}
+use Rattle.volume.specs.Statuses.{halted_by, halting}
+use Rattle.volume.specs.Volumes.{Volume}
 
 -- Records are written in order, each into the block of its number. The first whose write is refused still waits, and so do those behind it.
 -- Each write has a fate of its own.
@@ -29,7 +30,7 @@ with_log m left o v = record {
   dirty = v.dirty;
   first = v.first;
   next = v.next;
-  halted = halting v.halted o;
+  status = halting v.status o;
 }
 
 -- a force of a well volume
@@ -41,7 +42,7 @@ pub record ForcedWell (v : Volume) (o : Option Report) (v' : Volume) : Type 0 wh
 
 -- a call on a halted volume answers its fault and changes nothing
 abbrev pub ByStatus : Volume → Option Report → Volume → Type 0 → Type 0
-ByStatus v o v' well = MatchOption v.halted well (λ r. (o ≡ Some r) × (v' ≡ v))
+ByStatus v o v' well = MatchOption (halted_by v.status) well (λ r. (o ≡ Some r) × (v' ≡ v))
 
 -- a force of v answers o and leaves v'; accepted it answers the next number less 1
 abbrev pub Forced : Volume → Option Report → Volume → Type 0
@@ -68,7 +69,7 @@ with_header m o v = record {
   dirty = v.dirty;
   first = moved o (trimmed_to v) v.first;
   next = v.next;
-  halted = halting v.halted o;
+  status = halting v.status o;
 }
 
 pub record TrimmedWell (v : Volume) (o : Option Report) (v' : Volume) : Type 0 where

@@ -1,6 +1,7 @@
 pub mod Working
 pub mod Performing
 pub mod LogReading
+pub mod Statuses
 pub mod Volumes
 pub mod Models
 pub mod Forcing

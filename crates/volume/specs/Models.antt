@@ -1,21 +1,13 @@
 -- What a volume in code stands for.
-use Rattle.std.specs.Prelude.{ℕ, List, Some, None, Option}
+use Rattle.std.specs.Prelude.{ℕ, List}
 use Rattle.media.specs.Media.{Device}
 use Rattle.stores.specs.Stores.{Store}
 use Rattle.tables.specs.Waiting.{waiting}
 use Rattle.tables.specs.DirtyOps.{dirty}
-use Rattle.faults.specs.Faults.{Report, report}
-use Rattle.volume.specs.declared.status.Status.{Status}
-use Rattle.volume.specs.declared.status.Status.TheVariants.{Well, Halted}
 use Rattle.volume.specs.declared.down.Down.{Down}
 use Rattle.volume.specs.declared.up.Up.{Up}
 use Rattle.volume.specs.Working.{image_at}
 use Rattle.volume.specs.Volumes.{Ends, Volume}
-
--- the fault of a halted volume
-abbrev pub halted_by : Status → Option Report
-halted_by Well = None
-halted_by (Halted f) = Some (report f)
 
 module _ {K L S : Type 0} where
   abbrev pub up_model : (L → Device) → (S → Store) → (S → ℕ → List ℕ) → Up K L S → Volume
@@ -28,7 +20,7 @@ module _ {K L S : Type 0} where
     dirty = dirty u.dirty;
     first = u.first;
     next = u.next;
-    halted = halted_by u.status;
+    status = u.status;
   }
 
   abbrev pub down_model : (L → Device) → (S → Store) → (S → ℕ → List ℕ) → Down K L S → Ends

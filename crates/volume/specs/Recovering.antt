@@ -11,7 +11,6 @@ use Rattle.volume.specs.declared.recovered.Recovered.{Recovered}
 use Rattle.volume.specs.declared.status.Status.{Status}
 use Rattle.volume.specs.Working.{image_at}
 use Rattle.volume.specs.Volumes.{Ends, Volume}
-use Rattle.volume.specs.Models.{halted_by}
 use Rattle.volume.specs.Mounting.{Redone, mounted_well, mounted_halted}
 
 -- the pages and the operations redone, as they are in memory
@@ -37,7 +36,7 @@ up_by e x status = record {
   dirty = dirty x.dirty;
   first = x.first;
   next = x.next;
-  halted = halted_by status;
+  status = status;
 }
 
 -- the up volume with what a recovery came to

@@ -11,6 +11,9 @@ use Rattle.graph.specs.Ops.{dirty_ops, Pages}
 use Rattle.redo.specs.WriteGraph.{Dirty, SameGroup, DirectlyBefore}
 use Rattle.tables.specs.Waiting.{pushed as waitsToo}
 use Rattle.tables.specs.DirtyOps.{pushed as dirtyToo}
+use Rattle.volume.specs.declared.status.Status.{Status}
+use Rattle.volume.specs.declared.status.Status.TheVariants.{Well, Halted}
+use Rattle.volume.specs.Statuses.{halting}
 use Rattle.volume.specs.LogReading.{last_number}
 use Rattle.volume.specs.Working.{written}
 use Rattle.volume.specs.Performing.{outcome}
@@ -22,7 +25,7 @@ pub record Ends : Type 0 where
   pub plan : ℕ → List ℕ
 
 -- an up volume has also the working pages' images, the records that wait, the dirty operations, the log's first number, the next
--- number, and the fault with which it is halted; none while it is well
+-- number, and whether it is well
 pub record Volume : Type 0 where
   pub log : Device
   pub store : Store
@@ -32,7 +35,7 @@ pub record Volume : Type 0 where
   pub dirty : List Op
   pub first : ℕ
   pub next : ℕ
-  pub halted : Option Report
+  pub status : Status
 
 -- the first of two faults
 abbrev pub or_else : Option Report → Option Report → Option Report
@@ -40,18 +43,11 @@ or_else (Some r) o = Some r
 or_else None o = o
 
 -- a halted volume answers its fault ahead of all checks
-abbrev pub unless_halted : Volume → Option Report → Option Report
-unless_halted v o = or_else v.halted o
+abbrev pub unless_halted : Status → Option Report → Option Report
+unless_halted Well o = o
+unless_halted (Halted f) o = Some (report f)
 
--- a call in which the power failed, and no other, halts a well volume with its fault
-abbrev pub lost : Option Report → Option Report
-lost None = None
-lost (Some r) = cond (r.number == 4) (Some r) None
-
-abbrev pub halting : Option Report → Option Report → Option Report
-halting (Some r) o = Some r
-halting None o = lost o
-
+-- the volume once it has taken note of how a call ended
 abbrev pub noted : Option Report → Volume → Volume
 noted o v = record {
   log = v.log;
@@ -62,7 +58,7 @@ noted o v = record {
   dirty = v.dirty;
   first = v.first;
   next = v.next;
-  halted = halting v.halted o;
+  status = halting v.status o;
 }
 
 -- ---- run
@@ -81,7 +77,7 @@ scope_fault v (Err c) = Some (report (BodyRefused c))
 
 -- the checks of a run but the last
 abbrev pub admit_fault : Meaning → Volume → List ℕ → Option Report
-admit_fault k v body = unless_halted v (check (nat_lt 232 (length body)) (report (WrongLength (length body))) (scope_fault v (k.scope body)))
+admit_fault k v body = unless_halted v.status (check (nat_lt 232 (length body)) (report (WrongLength (length body))) (scope_fault v (k.scope body)))
 
 -- the last: the kind's word on the pages
 abbrev pub pages_fault : Result (List ℕ) ℕ → Option Report
@@ -99,7 +95,7 @@ with_operation body reads writes new v = record {
   dirty = dirtyToo v.dirty (record { number = v.next; reads = reads; writes = writes });
   first = v.first;
   next = v.next + 1;
-  halted = v.halted;
+  status = v.status;
 }
 
 abbrev pub entered : Result (List ℕ) ℕ → List ℕ → ℕ → ℕ → Volume → Volume
@@ -130,7 +126,7 @@ after_run k v body = unless_refused (admit_fault k v body) v (enter_after k v bo
 
 abbrev pub page_fault : Volume → ℕ → List ℕ → Option Report
 page_fault v p buffer =
-    unless_halted v
+    unless_halted v.status
     (check (nat_le 64 p) (report (NoSuchPage p))
     (check (not (length buffer == 256)) (report (WrongLength (length buffer)))
     None))
@@ -143,7 +139,7 @@ filled_with (Some r) image buffer = buffer
 -- ---- group: a page's group, and all pages in groups directly before it
 
 abbrev pub group_fault : Volume → ℕ → Option Report
-group_fault v p = unless_halted v (check (nat_le 64 p) (report (NoSuchPage p)) None)
+group_fault v p = unless_halted v.status (check (nat_le 64 p) (report (NoSuchPage p)) None)
 
 -- the groups that a volume tells are those of its dirty operations
 pub record Told (dirty : List Op) (p : ℕ) (sets : ℕ × ℕ) : Type 0 where

@@ -2,6 +2,7 @@
 ghost use Rattle.std.specs.Prelude.{◌≡◌, length};
 ghost use Rattle.tables.specs.DirtyOps.{dirty as dirtyOf};
 ghost use Rattle.volume.specs.Volumes.{Ends};
+ghost use Rattle.volume.specs.Statuses.{halted_by};
 ghost use Rattle.volume.specs.Models.{up_model, down_model};
 ghost use Rattle.volume.specs.Mounting.{mounted};
 ghost use Rattle.volume.specs.Surviving.{MountRecovers};
@@ -78,7 +79,7 @@ impl<K: Kind, L: Medium, S: PageStore> Down<K, L, S> {
 impl<K: Kind, L: Medium, S: PageStore> Up<K, L, S> {
     // The fault with which the volume is halted; none while it is well.
     pub fn fault(&self) -> Option<Fault>
-        ensures { report_of result ≡ (up_model L.Medium.model S.PageStore.meaning S.PageStore.plan self.now).halted }
+        ensures { report_of result ≡ halted_by self.now.status }
     {
         match self.status {
             Status::Well => None,

@@ -1,6 +1,6 @@
 use Rattle.std.proofs.Common.{◌≡◌, sym, refl, ap, ◌∙◌, subst}
 use Rattle.faults.specs.Faults.{refusal}
-use Rattle.volume.specs.Models.{halted_by, up_model}
+use Rattle.volume.specs.Models.{up_model}
 use Rattle.volume.proofs.FlushLaws.{flush-well}
 use Rattle.volume.proofs.up.Up.flush.Goals as goal
 
@@ -9,4 +9,4 @@ returns g c =
     let v = up_model {K = g.row.K.Denot} g.L.Medium.model g.S.PageStore.meaning g.S.PageStore.plan c.args.self.now in
     let v' = up_model {K = g.row.K.Denot} g.L.Medium.model g.S.PageStore.meaning g.S.PageStore.plan c.flush_page.new.self in
     let x = c.flush_page.ensures.flushed in
-    record { flushed = (x.0, (flush-well v v' c.args.page x.0 (refusal c.flush_page.result) (ap halted_by c.in_default.is) c.if-page-ge64.false x.1.0, x.1.1)) }
+    record { flushed = (x.0, (flush-well v v' c.args.page x.0 (refusal c.flush_page.result) c.in_default.is c.if-page-ge64.false x.1.0, x.1.1)) }
