@@ -1,11 +1,11 @@
 -- What reading and writing a medium come to, check by check.
-use Rattle.std.proofs.Common.{◌≡◌, ℕ, ◌<◌, ◌≤◌, Bool, true, false, cond, not, ◌&&◌, eqb, ltb, leb, List, [], length, set, Some, None, Option, sym, refl, ap, ◌∙◌, arith}
+use Rattle.std.proofs.Common.{◌≡◌, ℕ, ◌<◌, ◌≤◌, Bool, true, false, not, ◌&&◌, eqb, ltb, leb, List, length, Some, None, Option, sym, refl, ◌∙◌, arith}
 use Rattle.std.proofs.lemmas.Bool.Decides.{nat_tests}
 use Rattle.std.proofs.lemmas.Bool.{and_parts, and_right, ltb-true, eqb-true}
 use Rattle.media.specs.declared.fate.Fate.{Fate}
 use Rattle.faults.specs.declared.fault.Fault.TheVariants.{NoSuchBlock, WrongLength, PowerLost}
 use Rattle.faults.specs.Faults.{Report, report}
-use Rattle.media.specs.Media.{Device, block_count, block_at, check, read_fault, read_into, dies, lands, write_fault, begins, fated, after_write, WroteBy}
+use Rattle.media.specs.Media.{Device, block_count, block_at, check, read_fault, read_into, dies, begins, fated, WroteBy}
 
 module _ (m : Device) (b : ℕ) (buffer : List ℕ) where
   pub read_no_block : block_count m ≤ b → (Some (report (NoSuchBlock b)) ≡ read_fault m b buffer) × (buffer ≡ read_into m b buffer)

@@ -1,12 +1,11 @@
 -- A partition reads and writes as a medium of its own.
-use Rattle.std.proofs.Common.{◌≡◌, ℕ, ◌+◌, ◌<◌, ◌≤◌, Bool, true, false, cond, not, ◌&&◌, eqb, ltb, leb, List, [], length, get_or, take, drop, set, Some, None, Option, sym, refl, ap, ◌∙◌, ap₂, inl, inr, arith}
+use Rattle.std.proofs.Common.{◌≡◌, ℕ, ◌+◌, ◌<◌, ◌≤◌, Bool, true, false, cond, not, ◌&&◌, eqb, leb, List, [], length, get_or, take, drop, set, None, Option, sym, refl, ap, ◌∙◌, inl, inr, arith}
 use lib.Seq.{take-set-lt}
 use Rattle.std.proofs.lemmas.List.{length-take, length-drop, length-set, get_or-take, get_or-drop, drop-set-add, drop-set-lt, take-set-le}
-use Rattle.std.proofs.lemmas.Bool.{lt-ltb, le-leb, lt-leb, leb-true, cases_Bool, cond-true, cond-false}
-use Rattle.std.proofs.lemmas.Bool.Decides.{nat_tests}
+use Rattle.std.proofs.lemmas.Bool.{lt-ltb, le-leb, lt-leb, leb-true, cases_Bool}
 use Rattle.std.specs.Option.{option_map}
 use Rattle.media.specs.declared.fate.Fate.{Fate}
-use Rattle.faults.specs.declared.fault.Fault.TheVariants.{NoSuchBlock, WrongLength, PowerLost}
+use Rattle.faults.specs.declared.fault.Fault.TheVariants.{WrongLength, PowerLost}
 use Rattle.faults.specs.Faults.{Report, report}
 use Rattle.media.specs.Media.{Device, Whole, block_count, block_at, check, read_fault, read_into, dies, lands, write_fault, begins, fated, after_write, WroteBy}
 use Rattle.media.specs.Parts.{part_of, retell, SameOutside}

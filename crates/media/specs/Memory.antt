@@ -1,5 +1,5 @@
 -- The memory medium: as many blocks of 256 bytes as fit into the host's bytes, and a fuse by which alone it dies.
-use Rattle.std.specs.Prelude.{ℕ, zero, suc, ◌*◌, ◌/◌, Bool, true, false, cond, List, [], ◌∷◌, length, take, drop}
+use Rattle.std.specs.Prelude.{ℕ, zero, suc, ◌*◌, ◌/◌, List, [], ◌∷◌, length, take, drop}
 use Rattle.media.specs.declared.memory.MemoryMedium.{MemoryMedium}
 use Rattle.media.specs.declared.fate.Fate.{Fate}
 use Rattle.media.specs.declared.fate.Fate.TheVariants.{Lives, DiesOld, DiesNew}

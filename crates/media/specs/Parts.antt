@@ -1,5 +1,5 @@
 -- A partition: blocks a to a + n - 1 of a medium, or no block where the medium is shorter.
-use Rattle.std.specs.Prelude.{◌≡◌, ℕ, ◌+◌, cond, List, [], take, drop, ◌==◌, nat_le}
+use Rattle.std.specs.Prelude.{◌≡◌, ℕ, ◌+◌, cond, [], take, drop, ◌==◌, nat_le}
 use Rattle.faults.specs.declared.fault.Fault.TheVariants.{PowerLost}
 use Rattle.faults.specs.Faults.{Report, report}
 use Rattle.media.specs.Media.{Device, block_count}

@@ -1,5 +1,5 @@
 use Rattle.std.proofs.Common.{length, set, ap, ◌∙◌}
-use Rattle.media.specs.Memory.{blocks_of, behind}
+use Rattle.media.specs.Memory.{blocks_of}
 use Rattle.media.proofs.ChunkLaws.{blocks-put}
 use Rattle.media.proofs.memory.store_block.Goals as goal
 

@@ -1,5 +1,4 @@
-use Rattle.std.proofs.Common.{◌≡◌, ◌<◌, ◌≤◌, length, sym, ◌∙◌, arith}
-use Rattle.media.specs.Media.{block_count}
+use Rattle.std.proofs.Common.{◌∙◌, arith}
 use Rattle.media.specs.Memory.{memory, fitting}
 use Rattle.media.proofs.ChunkLaws.{length-chunks}
 use Rattle.media.proofs.MediaLaws.{read_no_block, read_wrong_length, read_passes}
@@ -24,4 +23,4 @@ returns c =
     let bs = c.args.self.now.bytes.now in
     let n = length-chunks (fitting bs) bs in
     let p = read_passes (memory c.args.self.now) c.args.block c.args.buffer.now (omega arith) (omega arith) in
-    record { answer = p.0; buffer = c.load-block.ensures ∙ p.1 }
+    record { answer = p.0; buffer = c.load_block.ensures ∙ p.1 }

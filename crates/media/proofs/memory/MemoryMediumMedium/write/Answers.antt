@@ -1,4 +1,4 @@
-use Rattle.std.proofs.Common.{◌≡◌, cond, sym, refl, ap, ◌∙◌, arith}
+use Rattle.std.proofs.Common.{sym, refl, ◌∙◌, arith}
 use Rattle.std.proofs.lemmas.Bool.{cond-false, cond-true}
 use Rattle.media.specs.Media.{begins}
 use Rattle.media.specs.Memory.{memory, fitting, fate_of, burnt}
@@ -36,8 +36,8 @@ returns-then-not-self c =
     let i = idle-dead (fate_of s.fuse) (memory s) b d c.if-not-self.true in
     record { wrote = (fate_of s.fuse, w); fated = w; rest = refl; fuse = sym (cond-false (begins (memory s) b d) (burnt s.fuse) s.fuse i); lent = refl }
 
-pub carry-out-requires : goal.carry-out-requires
-carry-out-requires c =
+pub carry_out-requires : goal.carry_out-requires
+carry_out-requires c =
     let s = c.args.self.now in
     let n = length-chunks (fitting s.bytes.now) s.bytes.now in
     record { begins = write-begins (fate_of s.fuse) (memory s) c.args.block c.args.data.now (omega arith) (omega arith) c.if-not-self.false }
@@ -49,5 +49,5 @@ returns c =
     let d = c.args.data.now in
     let n = length-chunks (fitting s.bytes.now) s.bytes.now in
     let i = write-begins (fate_of s.fuse) (memory s) b d (omega arith) (omega arith) c.if-not-self.false in
-    let e = c.carry-out.ensures in
+    let e = c.carry_out.ensures in
     record { wrote = (fate_of s.fuse, e.wrote); fated = e.wrote; rest = e.rest; fuse = e.fuse ∙ sym (cond-true (begins (memory s) b d) (burnt s.fuse) s.fuse i); lent = e.lent }

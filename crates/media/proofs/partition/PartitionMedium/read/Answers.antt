@@ -4,8 +4,8 @@ use Rattle.media.specs.Parts.{part_of}
 use Rattle.media.proofs.PartLaws.{part-read_fault, part-read_into}
 use Rattle.media.proofs.partition.PartitionMedium.read.Goals as goal
 
-pub overflow-add-self : goal.overflow-add-self
-overflow-add-self g c = let h = c.length.ensures.room c.args.block c.if-block-length.false in omega arith
+pub overflow_add-self : goal.overflow_add-self
+overflow_add-self g c = let h = c.length.ensures.room c.args.block c.if-block-length.false in omega arith
 
 pub returns : goal.returns
 returns g c =

@@ -1,12 +1,12 @@
-use Rattle.std.proofs.Common.{◌≡◌, ◌<◌, Some, None, sym, refl, ap, ◌∙◌, subst, arith}
+use Rattle.std.proofs.Common.{◌<◌, Some, None, refl, ap, ◌∙◌, arith}
 use Rattle.faults.specs.Faults.{report}
-use Rattle.media.specs.Media.{block_count, WroteBy}
-use Rattle.media.specs.Parts.{part_of, retell}
+use Rattle.media.specs.Media.{block_count}
+use Rattle.media.specs.Parts.{part_of}
 use Rattle.media.proofs.PartLaws.{part-wrote, part-outside}
 use Rattle.media.proofs.partition.PartitionMedium.write.Goals as goal
 
-pub overflow-add-self : goal.overflow-add-self
-overflow-add-self g c = let h = c.length.ensures.room c.args.block c.if-block-length.false in omega arith
+pub overflow_add-self : goal.overflow_add-self
+overflow_add-self g c = let h = c.length.ensures.room c.args.block c.if-block-length.false in omega arith
 
 pub returns-in-Ok : goal.returns-in-Ok
 returns-in-Ok g c =
