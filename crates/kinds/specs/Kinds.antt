@@ -1,5 +1,5 @@
 -- What a kind of operation means, and what every kind owes.
-use Rattle.std.specs.Prelude.{◌≡◌, ℕ, ◌*◌, ◌^◌, ◌<◌, ◌≤◌, Bool, cond, ◌&&◌, List, length, Ok, Err, Result, ◌==◌, ◌≢◌}
+use Rattle.std.specs.Prelude.{◌≡◌, ℕ, ◌*◌, ◌^◌, ◌<◌, ◌≤◌, cond, ◌&&◌, List, length, Ok, Err, Result, ◌==◌, ◌≢◌}
 use Rattle.std.specs.List.{AllByRecursion as All}
 use Rattle.sets.specs.Sets.{size}
 
