@@ -1,7 +1,7 @@
 -- Buffers written in parts.
-use Rattle.std.proofs.Common.{◌≡◌, ℕ, ◌+◌, ◌-◌, ◌≤◌, List, [], ◌∷◌, ◌++◌, length, take, drop, sym, refl, ap, ◌∙◌, ap₂, arith}
+use Rattle.std.proofs.Common.{◌≡◌, ℕ, ◌+◌, ◌-◌, List, [], ◌++◌, length, take, drop, ap, ◌∙◌, ap₂, arith}
 use borrow.Rule.Slice.PartMut.{put_mid, post_of}
-use Rattle.std.proofs.lemmas.List.{append-nil, length-append, length-take, length-drop, take_at, drop_at, drop-drop, drop_all, take_all}
+use Rattle.std.proofs.lemmas.List.{append-nil, length-take, length-drop, take_at, drop_at, drop-drop, drop_all, take_all}
 
 pub lay-is : (o m : ℕ) (old new bytes w : List ℕ) → m ≡ o + length bytes - o → new ≡ old → w ≡ bytes → put_mid o m new w ≡ take o old ++ (bytes ++ drop (o + length bytes) old)
 lay-is o m old new bytes w em en ew =

@@ -1,15 +1,13 @@
 -- Bodies of the page kind.
-use Rattle.std.specs.Prelude.{◌≡◌, ℕ, zero, suc, ◌+◌, ◌-◌, ◌*◌, ◌^◌, ◌<◌, ◌≤◌, Bool, true, false, cond, not, ◌&&◌, ◌||◌, List, [], ◌∷◌, ◌++◌, length, take, drop, replicate, Some, None, Ok, Err, Option, Result, ◌==◌, ◌≢◌, nat_eq, nat_le, nat_lt, slice_index, refl}
+use Rattle.std.specs.Prelude.{◌≡◌, ℕ, zero, suc, ◌+◌, ◌*◌, ◌<◌, ◌≤◌, Bool, true, false, cond, not, ◌&&◌, ◌||◌, List, ◌++◌, length, take, drop, replicate, Some, None, Ok, Err, Option, Result, ◌==◌, ◌≢◌, nat_eq, nat_le, nat_lt, slice_index, refl}
 use Rattle.std.proofs.Common.{inl, inr, sym, ap, subst, ◌∙◌, arith}
-use Rattle.std.specs.List.{AllByRecursion as All}
 use Rattle.std.proofs.ByRecursion.{All-take, All-drop, All-append, All-get_or}
 use Rattle.std.proofs.lemmas.List.{length-append, length-take, length-drop, length-replicate, get_or_past}
 use Rattle.std.proofs.lemmas.Bool.{cond-true, cond-false, cond_both, and_parts, leb-true, ltb-true, eqb-true, eqb-false, ne_eqb, not-true, cases_lt}
 use Rattle.std.proofs.lemmas.Bool.Decides.{nat_tests}
 use Rattle.sets.specs.Sets.{size}
 use Rattle.kinds.specs.Actions.{Action, patch, fill, copy, swap, when, parse, patch_of, fill_from, copy_of, swap_from, sets, change, scope_by, effect_by, page_meaning, Ready}
-use Rattle.kinds.specs.Kinds.{Meaning, Bytes, Scoped, Lawful, within, reply}
-use Rattle.kinds.specs.PageSets.{only, both, run}
+use Rattle.kinds.specs.Kinds.{Bytes, Scoped, Lawful, within, reply}
 use Rattle.kinds.specs.PageSetLaws.{set_below, size-only, size-both, size-run, size_none}
 
 least : (t k n m : ℕ) → (t ≡ k → m ≤ n → ⊥) → (t == k && nat_le m n) ≡ false

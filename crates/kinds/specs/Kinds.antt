@@ -1,6 +1,6 @@
 -- What a kind of operation means, and what every kind owes.
-use Rattle.std.specs.Prelude.{◌≡◌, ℕ, ◌*◌, ◌^◌, ◌<◌, ◌≤◌, Bool, cond, ◌&&◌, List, length, Ok, Err, Result, ◌==◌, ◌≢◌}
-use Rattle.std.specs.List.{AllByRecursion as All}
+use Rattle.std.specs.Prelude.{◌≡◌, ℕ, ◌*◌, ◌^◌, ◌<◌, ◌≤◌, cond, ◌&&◌, List, length, Ok, Err, Result, ◌==◌, ◌≢◌}
+use Rattle.std.specs.List.{AllByRecursion}
 use Rattle.sets.specs.Sets.{size}
 
 -- a kind: the largest number of pages that an operation reads or writes; from a body the pages read and the pages written, or a
@@ -13,7 +13,7 @@ pub record Meaning : Type 0 where
 
 -- each is a byte
 abbrev pub Bytes : List ℕ → Type 0
-Bytes bs = All (λ b. b < 256) bs
+Bytes bs = AllByRecursion (λ b. b < 256) bs
 
 -- the two sets of an operation: sets of the 64 pages, neither larger than the limit, the written one not empty
 pub record Scoped (limit reads writes : ℕ) : Type 0 where

@@ -1,11 +1,10 @@
 -- Sets of pages by a test.
-use Rattle.std.specs.Prelude.{◌≡◌, ℕ, zero, suc, ◌+◌, ◌-◌, ◌*◌, ◌/◌, ◌%◌, ◌^◌, ◌<◌, ◌≤◌, min, Bool, true, false, cond, not, ◌&&◌, ◌||◌, ◌⊎◌, ◌==◌, ◌≢◌, nat_eq, nat_le, nat_lt, refl}
-use Rattle.std.proofs.Common.{inl, inr, sym, ap, ◌∙◌, pow-suc, arith}
-use Rattle.std.proofs.Math.Path.{fun_ext}
-use Rattle.std.proofs.lemmas.Bool.{cases_lt, cond_both, and_parts, eqb-true, le-ltb, and_right, lt-ltb}
+use Rattle.std.specs.Prelude.{◌≡◌, ℕ, zero, suc, ◌+◌, ◌-◌, ◌*◌, ◌/◌, ◌%◌, ◌^◌, ◌<◌, ◌≤◌, min, Bool, true, false, cond, ◌&&◌, ◌||◌, ◌==◌, ◌≢◌, nat_eq, nat_le, nat_lt, refl}
+use Rattle.std.proofs.Common.{sym, ap, ◌∙◌, pow-suc, arith}
+use Rattle.std.proofs.lemmas.Bool.{cond_both, le-ltb, and_right, lt-ltb}
 use Rattle.std.proofs.lemmas.Bool.Decides.{nat_tests}
 use Rattle.sets.specs.Sets.{has, count, size, SetOf}
-use Rattle.sets.proofs.SetLaws.{has-zero, has-suc, has-none, has_above, set-only}
+use Rattle.sets.proofs.SetLaws.{has-zero, has-suc, has-none, set-only}
 use Rattle.kinds.specs.PageSets.{gather, set_of, only, both, run}
 
 digit : (b : Bool) (g : ℕ) → ((cond b 1 0 + 2 * g) % 2 == 1) ≡ b

@@ -1,11 +1,11 @@
 -- Pages written front to back.
-use Rattle.std.proofs.Common.{◌≡◌, ℕ, zero, suc, ◌+◌, ◌-◌, ◌*◌, ◌/◌, ◌%◌, ◌<◌, ◌≤◌, List, [], ◌∷◌, ◌++◌, length, take, drop, replicate, sym, refl, ap, ◌∙◌, ap₂, arith}
-use borrow.Rule.Slice.PartMut.{put_mid, post_of}
-use Rattle.std.proofs.lemmas.List.{append_assoc, length-append, length-take, length-drop, take_all, take_at}
+use Rattle.std.proofs.Common.{◌≡◌, ℕ, ◌+◌, ◌-◌, ◌*◌, ◌/◌, ◌%◌, ◌≤◌, List, [], ◌∷◌, ◌++◌, length, take, drop, sym, refl, ap, ◌∙◌, ap₂, arith}
+use borrow.Rule.Slice.PartMut.{put_mid}
+use Rattle.std.proofs.lemmas.List.{append_assoc, length-take, length-drop, take_all}
 use Rattle.std.proofs.lemmas.Slice.{take-put_mid}
 use Rattle.sets.specs.Words.{bytes_of, part}
 use Rattle.sets.proofs.WordLaws.{bytes-length}
-use Rattle.tree.specs.Nodes.{Entry, entry_bytes, head_of}
+use Rattle.tree.specs.Nodes.{Entry, entry_bytes}
 
 -- one more piece
 pub front-more : (before after f x y : List ℕ) (a b : ℕ) → take (a + length x) after ≡ take a before ++ x → take a before ≡ f → x ≡ y → b ≡ a + length y → take b after ≡ f ++ y

@@ -1,11 +1,11 @@
 -- Pages and entries as maps.
-use Rattle.std.proofs.Common.{◌≡◌, ℕ, zero, suc, ◌+◌, ◌-◌, ◌*◌, ◌^◌, ◌<◌, ◌≤◌, max, Bool, true, false, cond, not, ◌&&◌, ◌||◌, eqb, ltb, leb, ◌⊎◌, List, [], ◌∷◌, ◌++◌, length, get_or, take, drop, replicate, Some, None, Option, sym, refl, ap, ◌∙◌, subst, ap₂, inl, inr, arith}
+use Rattle.std.proofs.Common.{◌≡◌, ℕ, suc, ◌+◌, ◌-◌, ◌*◌, max, Bool, true, false, cond, eqb, List, [], ◌∷◌, ◌++◌, length, take, drop, replicate, Some, sym, refl, ap, ◌∙◌, inl, inr}
 use Rattle.std.proofs.lemmas.List.{append_assoc, take_at, drop_at}
-use Rattle.std.proofs.lemmas.Bool.{cases_Bool, cond-true, cond-false, eq-eqb, ne_eqb, eqb-true, eqb-false, both_ways, and_parts, and_from}
+use Rattle.std.proofs.lemmas.Bool.{cases_Bool, cond-true, cond-false, eq-eqb, ne_eqb, eqb-true, eqb-false, and_parts, and_from}
 use Rattle.sets.specs.Words.{number, bytes_of, part}
 use Rattle.sets.proofs.WordLaws.{bytes-length, number-bytes}
 use Rattle.tree.specs.Orders.{KeyOrdering, TotalOrder}
-use Rattle.tree.specs.Nodes.{Entry, find, put, above, rising, mark, count, entries, entry_bytes, entries_bytes, entries_of, head_of, renew}
+use Rattle.tree.specs.Nodes.{Entry, find, put, above, rising, count, entries, entries_bytes, entries_of, renew}
 use Rattle.tree.specs.Laws.{Words, Codec, Puts}
 
 -- entries read back from their bytes

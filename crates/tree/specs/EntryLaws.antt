@@ -1,15 +1,15 @@
 -- Entries and their bytes.
-use Rattle.std.specs.Prelude.{◌≡◌, ℕ, zero, suc, ◌+◌, ◌-◌, ◌*◌, ◌^◌, ◌<◌, ◌≤◌, Bool, true, false, cond, not, ◌&&◌, ◌||◌, ◌⊎◌, List, [], ◌∷◌, ◌++◌, length, take, drop, replicate, Some, None, ◌==◌, ◌≢◌, nat_le, nat_lt, refl}
-use Rattle.std.proofs.Common.{inl, inr, sym, ap, ap₂, subst, ◌∙◌, arith}
+use Rattle.std.specs.Prelude.{◌≡◌, ℕ, suc, ◌+◌, ◌-◌, ◌*◌, ◌<◌, ◌≤◌, Bool, true, false, not, ◌&&◌, ◌||◌, ◌⊎◌, List, [], ◌∷◌, take, drop, Some, ◌==◌, ◌≢◌, nat_le, nat_lt, refl}
+use Rattle.std.proofs.Common.{inl, inr, sym, ap, ap₂, ◌∙◌, arith}
 use Rattle.std.proofs.Math.Path.{fun_ext}
 use Rattle.std.proofs.lemmas.List.{drop-drop}
 use Rattle.std.proofs.lemmas.Bool.{cases_lt, lt-ltb, cond-true, cond-false, eq-eqb, ne_eqb}
 use Rattle.std.proofs.lemmas.Bool.Decides.{nat_tests}
 use Rattle.sets.specs.Sets.{has, SetOf}
 use Rattle.sets.proofs.SetLaws.{has-none}
-use Rattle.sets.specs.Words.{number, bytes_of, part}
-use Rattle.tree.specs.Orders.{KeyOrdering, TotalOrder}
-use Rattle.tree.specs.Nodes.{Entry, find, absent, put, before, above, rising, fresh, entry_bytes, entries_bytes, entries_of, count, entries}
+use Rattle.sets.specs.Words.{number, part}
+use Rattle.tree.specs.Orders.{KeyOrdering}
+use Rattle.tree.specs.Nodes.{Entry, find, absent, before, above, rising, fresh, entries_of, count, entries}
 
 -- ---- the entries from number i on
 

@@ -1,12 +1,12 @@
 -- Laws of pages and of putting keys in, in the words of maps.
 use Rattle.std.specs.Prelude.{◌≡◌, ℕ, ◌^◌, ◌<◌, true, List, length, Some, ◌≢◌}
-use Rattle.std.specs.List.{AllByRecursion as All}
-use Rattle.tree.specs.Orders.{KeyOrdering, TotalOrder}
+use Rattle.std.specs.List.{AllByRecursion}
+use Rattle.tree.specs.Orders.{KeyOrdering}
 use Rattle.tree.specs.Nodes.{Entry, find, put, rising, mark, count, entries, renew}
 
 -- keys and values of four bytes
 abbrev pub Words : List Entry → Type 0
-Words es = All (λ e. (e.0 < 2 ^ 32) × (e.1 < 2 ^ 32)) es
+Words es = AllByRecursion (λ e. (e.0 < 2 ^ 32) × (e.1 < 2 ^ 32)) es
 
 -- a renewed page has the new mark and exactly the new entries
 abbrev pub Codec : Type 0

@@ -1,15 +1,15 @@
 -- Pages and their entries: what each step writes is the renewed page.
-use Rattle.std.specs.Prelude.{◌≡◌, ℕ, zero, suc, ◌+◌, ◌-◌, ◌*◌, ◌^◌, ◌<◌, ◌≤◌, max, Bool, true, false, cond, not, ◌&&◌, ◌||◌, ◌⊎◌, List, [], ◌∷◌, ◌++◌, length, take, drop, replicate, ◌==◌, ◌≢◌, refl}
-use Rattle.std.proofs.Common.{inl, inr, subst, ◌∙◌, add-one}
+use Rattle.std.specs.Prelude.{◌≡◌, ℕ, zero, suc, ◌+◌, ◌-◌, ◌*◌, ◌<◌, ◌≤◌, max, Bool, true, false, cond, ◌⊎◌, List, [], ◌∷◌, ◌++◌, length, take, drop, replicate, ◌==◌, ◌≢◌, refl}
+use Rattle.std.proofs.Common.{inl, inr, subst, ◌∙◌}
 use Rattle.std.proofs.Math.Path.{sym, ap, ap₂}
 use native.Mathlib.Omega.{arith}
 use borrow.Rule.Slice.PartMut.{put_mid, post_of}
-use Rattle.std.specs.List.{AllByRecursion as All}
-use Rattle.std.proofs.ByRecursion.{All-take, All-drop, All-append}
-use Rattle.std.proofs.lemmas.List.{append_assoc, append-nil, length-append, length-take, length-drop, length-replicate, take-append-drop, take_all, take_at, drop_at, drop_all, drop-drop, drop-replicate, drop-take}
-use Rattle.std.proofs.lemmas.Bool.{cases_lt, cases_Bool, cond-true, cond-false, eq-eqb, ne_eqb, eqb-true, eqb-false, both_ways}
+use Rattle.std.specs.List.{AllByRecursion}
+use Rattle.std.proofs.ByRecursion.{All-take, All-drop}
+use Rattle.std.proofs.lemmas.List.{append_assoc, append-nil, length-append, length-take, length-drop, take_at, drop_at, drop_all, drop-drop}
+use Rattle.std.proofs.lemmas.Bool.{cases_Bool, cond-true, cond-false, eq-eqb, ne_eqb, eqb-true, eqb-false, both_ways}
 use Rattle.sets.specs.Words.{number, bytes_of, part}
-use Rattle.sets.proofs.WordLaws.{bytes-length, bytes-number, number-bytes}
+use Rattle.sets.proofs.WordLaws.{bytes-number}
 use Rattle.tree.specs.Orders.{KeyOrdering, TotalOrder}
 use Rattle.tree.specs.Nodes.{Entry, put, before, hit, entry_bytes, entries_bytes, entries_of, count, entries, head_of, renew}
 use Rattle.tree.specs.Steps.{blank}
@@ -103,11 +103,11 @@ pub entries_bytes-append : (xs ys : List Entry) → entries_bytes (xs ++ ys) ≡
 entries_bytes-append [] ys = refl
 entries_bytes-append (x ∷ xs) ys = ap (λ t. entry_bytes x ++ t) (entries_bytes-append xs ys) ∙ sym (append_assoc (entry_bytes x) (entries_bytes xs) (entries_bytes ys))
 
-word_of : (bs : List ℕ) (a : ℕ) → a + 4 ≤ length bs → All (λ b. b < 256) bs → bytes_of 4 (number (part a 4 bs)) ≡ part a 4 bs
+word_of : (bs : List ℕ) (a : ℕ) → a + 4 ≤ length bs → AllByRecursion (λ b. b < 256) bs → bytes_of 4 (number (part a 4 bs)) ≡ part a 4 bs
 word_of bs a l all = bytes-number 4 (part a 4 bs) (simp (length-take, length-drop) (omega arith)) (All-take (λ b. b < 256) 4 (drop a bs) (All-drop (λ b. b < 256) a bs all))
 
 -- the bytes of the entries that bytes hold are these bytes
-pub bytes-entries_of : (n : ℕ) (bs : List ℕ) → 8 * n ≤ length bs → All (λ b. b < 256) bs → entries_bytes (entries_of n bs) ≡ take (8 * n) bs
+pub bytes-entries_of : (n : ℕ) (bs : List ℕ) → 8 * n ≤ length bs → AllByRecursion (λ b. b < 256) bs → entries_bytes (entries_of n bs) ≡ take (8 * n) bs
 bytes-entries_of zero bs l all = refl
 bytes-entries_of (suc n) bs l all =
     let ih = bytes-entries_of n (drop 8 bs) (simp length-drop (omega arith)) (All-drop (λ b. b < 256) 8 bs all) in
@@ -129,7 +129,7 @@ bytes-entries_of (suc n) bs l all =
     take-sum (suc a) b (x ∷ xs) = let s : suc a + b ≡ suc (a + b) = omega arith in ap (λ j. take j (x ∷ xs)) s ∙ ap (λ t. x ∷ t) (take-sum a b xs)
 
 -- stretches of a page's entries
-module _ (c : List ℕ) (len : length c ≡ 224) (few : count c ≤ 26) (all : All (λ b. b < 256) c) where
+module _ (c : List ℕ) (len : length c ≡ 224) (few : count c ≤ 26) (all : AllByRecursion (λ b. b < 256) c) where
   pub length-entries : length (entries c) ≡ count c
   unfolding entries
   length-entries = length-entries_of (count c) (drop 4 c)

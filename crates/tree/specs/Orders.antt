@@ -1,5 +1,5 @@
 -- Orders on keys.
-use Rattle.std.specs.Prelude.{◌≡◌, ℕ, ◌^◌, ◌<◌, Bool, true, false, ◌⊎◌}
+use Rattle.std.specs.Prelude.{◌≡◌, ℕ, Bool, true, false}
 
 -- an order on keys, as a test, and the key below all others
 pub record KeyOrdering : Type 0 where

@@ -7,7 +7,7 @@ use Rattle.kinds.specs.PageSets.{only, both}
 use Rattle.tree.specs.declared.step.Step.{Step}
 use Rattle.tree.specs.declared.step.Step.TheVariants.{Insert, Lower, Upper, Cut, Grow}
 use Rattle.tree.specs.Orders.{KeyOrdering}
-use Rattle.tree.specs.Nodes.{Entry, put, absent, entries, count, renew, leaf_form, full_leaf, root_form, middle_key}
+use Rattle.tree.specs.Nodes.{put, absent, entries, count, renew, leaf_form, full_leaf, root_form, middle_key}
 
 -- ---- bodies
 

@@ -1,7 +1,6 @@
 -- The tree kind is a kind.
-use Rattle.std.specs.Prelude.{◌≡◌, ℕ, zero, suc, ◌+◌, ◌-◌, ◌*◌, ◌/◌, ◌%◌, ◌^◌, ◌<◌, ◌≤◌, max, Bool, true, false, cond, not, ◌&&◌, ◌||◌, List, [], ◌∷◌, ◌++◌, length, take, drop, replicate, Some, None, Ok, Err, Option, Result, ◌==◌, ◌≢◌, nat_le, slice_index, refl}
-use Rattle.std.proofs.Common.{sym, ap, ap₂, subst, ◌∙◌, arith}
-use Rattle.std.specs.List.{AllByRecursion as All}
+use Rattle.std.specs.Prelude.{◌≡◌, ℕ, zero, suc, ◌+◌, ◌-◌, ◌*◌, ◌/◌, ◌<◌, ◌≤◌, max, Bool, true, false, cond, ◌&&◌, ◌||◌, List, [], ◌∷◌, ◌++◌, length, take, drop, replicate, Some, None, Ok, Err, Option, Result, ◌==◌, ◌≢◌, nat_le, slice_index, refl}
+use Rattle.std.proofs.Common.{sym, ap, subst, ◌∙◌, arith}
 use Rattle.std.proofs.ByRecursion.{All-take, All-drop, All-append}
 use Rattle.std.proofs.lemmas.List.{length-append, length-take, length-drop, length-replicate, length-take-le}
 use Rattle.std.proofs.lemmas.Bool.{cond-true, cond-false, and_parts, eqb-true, leb-true, ne_eqb}
@@ -12,7 +11,7 @@ use Rattle.kinds.specs.PageSetLaws.{size-only, size-both}
 use Rattle.tree.specs.declared.step.Step.{Step}
 use Rattle.tree.specs.declared.step.Step.TheVariants.{Insert, Lower, Upper, Cut, Grow}
 use Rattle.tree.specs.Orders.{KeyOrdering, TotalOrder}
-use Rattle.tree.specs.Nodes.{Entry, mark, count, entries, entry_bytes, entries_bytes, put, before, hit, renew, rising, fresh, absent, well_formed, leaf_form, full_leaf, root_form, opening_key, middle_key}
+use Rattle.tree.specs.Nodes.{Entry, mark, count, entries, entry_bytes, entries_bytes, put, renew, rising, absent, well_formed, leaf_form, full_leaf, root_form, middle_key}
 use Rattle.tree.specs.Steps.{cut_form, blank, parse, sets, change, scope_by, effect_by, tree_meaning}
 use Rattle.tree.specs.NodeLaws.{put-length, length-entries_of}
 use Rattle.tree.specs.StepLaws.{Good, parse-good, step-scoped}

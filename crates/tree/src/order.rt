@@ -1,5 +1,5 @@
 // Orders on keys.
-ghost use Rattle.std.specs.Prelude.{◌≡◌};
+ghost use Rattle.std.specs.Prelude.{◌≡◌, nat_lt};
 ghost use Rattle.tree.specs.Orders.{KeyOrdering, TotalOrder};
 ghost use Rattle.std.proofs.Common.{rules};
 
@@ -24,7 +24,7 @@ const LOWEST: u32 = 0;
 pub struct Unsigned;
 
 impl KeyOrder for Unsigned {
-    ghost ordering = { record { less = ltb; least = 0 } };
+    ghost ordering = { record { less = nat_lt; least = 0 } };
 
     ghost ordered = { Prim.search rules };
 

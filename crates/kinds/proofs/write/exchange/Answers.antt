@@ -1,4 +1,4 @@
-use Rattle.std.proofs.Common.{refl, ◌∙◌}
+use Rattle.std.proofs.Common.{refl}
 use Rattle.kinds.proofs.BufferLaws.{exchange_is}
 use Rattle.kinds.proofs.write.exchange.Goals as goal
 

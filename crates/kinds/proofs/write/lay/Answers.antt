@@ -1,5 +1,4 @@
-use Rattle.std.proofs.Common.{refl, ◌∙◌}
-use Rattle.std.proofs.lemmas.List.{take_all}
+use Rattle.std.proofs.Common.{refl}
 use Rattle.kinds.proofs.BufferLaws.{lay-is}
 use Rattle.kinds.proofs.write.lay.Goals as goal
 

@@ -1,4 +1,4 @@
-use Rattle.std.proofs.Common.{◌≡◌, sym, refl, ap, ◌∙◌, arith}
+use Rattle.std.proofs.Common.{sym, ap, arith}
 use Rattle.tree.specs.Nodes.{before}
 use Rattle.tree.specs.EntryLaws.{from_all, before-stop, before-go}
 use Rattle.tree.proofs.entries.before.Goals as goal
@@ -10,12 +10,12 @@ loop-i-init g c =
 
 pub returns-then-not-less : goal.returns-then-not-less
 returns-then-not-less g c =
-    let e = before-stop c.args.c.now c.count-n.result c.loop-i.i c.loop-i-test.true g.O.KeyOrder.ordering c.args.key c.key-at.result c.key-at.ensures (sym c.if-not-less.ensures) in
+    let e = before-stop c.args.c.now c.count-n.result c.loop-i.i c.loop-i-test.true g.O.KeyOrder.ordering c.args.key c.key_at.result c.key_at.ensures (sym c.if-not-less.ensures) in
     let h = c.loop-i.invariant.1 in
     omega arith
 
 pub loop-i-preserved : goal.loop-i-preserved
 loop-i-preserved g c =
-    let e = before-go c.args.c.now c.count-n.result c.loop-i.i c.loop-i-test.true g.O.KeyOrder.ordering c.args.key c.key-at.result c.key-at.ensures (sym c.if-not-less.ensures) in
+    let e = before-go c.args.c.now c.count-n.result c.loop-i.i c.loop-i-test.true g.O.KeyOrder.ordering c.args.key c.key_at.result c.key_at.ensures (sym c.if-not-less.ensures) in
     let h = c.loop-i.invariant.1 in
     (c.loop-i.invariant.0, omega arith)

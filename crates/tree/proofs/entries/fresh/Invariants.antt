@@ -1,6 +1,6 @@
-use Rattle.std.proofs.Common.{◌≡◌, ◌+◌, ◌^◌, ◌<◌, false}
+use Rattle.std.proofs.Common.{◌≡◌, false}
 use Rattle.sets.specs.Sets.{has}
-use Rattle.tree.specs.Nodes.{find, absent, before, above, rising, fresh, count, entries}
+use Rattle.tree.specs.Nodes.{fresh, count, entries}
 use Rattle.tree.specs.EntryLaws.{from}
 use Rattle.tree.proofs.entries.fresh.Given as goal
 

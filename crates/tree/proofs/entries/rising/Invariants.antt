@@ -1,6 +1,5 @@
-use Rattle.std.proofs.Common.{◌≡◌, ◌+◌, ◌^◌, ◌<◌, false}
-use Rattle.sets.specs.Sets.{has}
-use Rattle.tree.specs.Nodes.{find, absent, before, above, rising, fresh, count, entries}
+use Rattle.std.proofs.Common.{◌≡◌}
+use Rattle.tree.specs.Nodes.{above, rising, count, entries}
 use Rattle.tree.specs.EntryLaws.{from}
 use Rattle.tree.proofs.entries.rising.Given as goal
 

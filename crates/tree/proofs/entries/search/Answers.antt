@@ -1,4 +1,4 @@
-use Rattle.std.proofs.Common.{◌≡◌, sym, refl, ap, ◌∙◌, arith}
+use Rattle.std.proofs.Common.{ap, ◌∙◌}
 use Rattle.tree.specs.Nodes.{find}
 use Rattle.tree.specs.EntryLaws.{from_all, find-hit, find-miss}
 use Rattle.tree.proofs.entries.search.Goals as goal
@@ -6,8 +6,8 @@ use Rattle.tree.proofs.entries.search.Goals as goal
 pub loop-i-init : goal.loop-i-init
 loop-i-init c = (c.count-i-end.ensures, ap (find c.args.key) (from_all c.args.c.now c.count-i-end.result c.count-i-end.ensures))
 
-pub returns-then-key-at-key : goal.returns-then-key-at-key
-returns-then-key-at-key c = find-hit c.args.c.now c.count-i-end.result c.loop-i.i c.loop-i-test.true c.args.key c.key-at.result c.value-at.result c.key-at.ensures c.value-at.ensures c.if-key-at-key.true ∙ c.loop-i.invariant.1
+pub returns-then-key_at-key : goal.returns-then-key_at-key
+returns-then-key_at-key c = find-hit c.args.c.now c.count-i-end.result c.loop-i.i c.loop-i-test.true c.args.key c.key_at.result c.value_at.result c.key_at.ensures c.value_at.ensures c.if-key_at-key.true ∙ c.loop-i.invariant.1
 
 pub loop-i-preserved : goal.loop-i-preserved
-loop-i-preserved c = (c.loop-i.invariant.0, find-miss c.args.c.now c.count-i-end.result c.loop-i.i c.loop-i-test.true c.args.key c.key-at.result c.key-at.ensures c.if-key-at-key.false ∙ c.loop-i.invariant.1)
+loop-i-preserved c = (c.loop-i.invariant.0, find-miss c.args.c.now c.count-i-end.result c.loop-i.i c.loop-i-test.true c.args.key c.key_at.result c.key_at.ensures c.if-key_at-key.false ∙ c.loop-i.invariant.1)

@@ -1,14 +1,7 @@
-use Rattle.std.proofs.Common.{◌≡◌, ℕ, ◌+◌, ◌-◌, ◌*◌, ◌<◌, ◌≤◌, true, false, cond, ◌&&◌, eqb, leb, List, ◌++◌, length, take, drop, Ok, Err, sym, refl, ap, ◌∙◌, subst, ap₂, arith, rules}
-use Rattle.std.specs.List.{AllByRecursion as All}
-use Rattle.std.proofs.ByRecursion.{All-from_get_or, All-take, All-drop}
-use Rattle.std.proofs.lemmas.List.{length-take-le, length-drop, length-take, take_all}
-use Rattle.std.proofs.lemmas.Bool.{cond-true, cond-false, and_parts, eqb-true, leb-true}
-use Rattle.kinds.specs.Kinds.{answer, filled}
-use Rattle.sets.specs.Words.{number, part}
-use Rattle.tree.specs.Nodes.{count, entries, before, hit, put, renew, leaf_form, well_formed, rising, full_leaf, root_form, opening_key, mark, fresh, absent, middle_key, head_of, entry_bytes}
-use Rattle.tree.specs.Steps.{blank, lower, upper, cut, cut_form, grow}
-use Rattle.tree.specs.NodeLaws.{put-length, before-within, hit-small, length-entries, renew-put, renew-shrink, renew-plant, renew-lower, renew-upper, two-pages}
-use Rattle.tree.specs.TreeLaws.{full_count, cut_parts}
+use Rattle.std.proofs.Common.{◌≡◌, ◌<◌, drop, ap, ◌∙◌, arith}
+use Rattle.std.proofs.ByRecursion.{All-from_get_or}
+use Rattle.tree.specs.Nodes.{entries, before, hit}
+use Rattle.tree.specs.NodeLaws.{put-length, before-within, hit-small, length-entries, renew-put}
 use Rattle.tree.proofs.steps.put.Goals as goal
 
 pub splice-requires : goal.splice-requires
@@ -18,7 +11,7 @@ splice-requires g c =
     let k = c.args.key in
     let i : c.before-i.result ≡ before o k es = c.before-i.ensures in
     let h : c.hit-skip.result ≡ hit k (drop (before o k es) es) = c.hit-skip.ensures ∙ ap (λ i. hit k (drop i es)) i in
-    let le = length-entries c.args.old.now c.requires.lengths.0 c.requires.few.0 (All-from_get_or (λ x. x < 256) c.args.old.now 0 (λ i l. (c.type-inv.old i).fits)) in
+    let le = length-entries c.args.old.now c.requires.lengths.0 c.requires.few.0 (All-from_get_or (λ x. x < 256) c.args.old.now 0 (λ i l. (c.type_inv.old i).fits)) in
     let w = before-within o k es in
     let s = hit-small k (drop (before o k es) es) in
     let pl = put-length o g.met.O.KeyOrder.ordered k c.args.value es in
@@ -33,5 +26,5 @@ returns g c =
     let i : c.before-i.result ≡ before o k es = c.before-i.ensures in
     let h : c.hit-skip.result ≡ hit k (drop (before o k es) es) = c.hit-skip.ensures ∙ ap (λ i. hit k (drop i es)) i in
     c.splice.ensures
-    ∙ renew-put c.args.old.now c.requires.lengths.0 c.requires.few.0 (All-from_get_or (λ x. x < 256) c.args.old.now 0 (λ i l. (c.type-inv.old i).fits))
+    ∙ renew-put c.args.old.now c.requires.lengths.0 c.requires.few.0 (All-from_get_or (λ x. x < 256) c.args.old.now 0 (λ i l. (c.type_inv.old i).fits))
     o g.met.O.KeyOrder.ordered c.args.mark k c.args.value c.before-i.result c.hit-skip.result i h

@@ -1,15 +1,15 @@
 use Rattle.std.proofs.Common.{◌≡◌, ◌*◌, true, false, ◌&&◌, eqb, length, sym, ap, ◌∙◌}
 use Rattle.std.proofs.lemmas.Bool.{and_parts, eqb-true}
 use Rattle.sets.specs.Sets.{size}
-use Rattle.kinds.specs.Actions.{sets, change}
+use Rattle.kinds.specs.Actions.{sets}
 use Rattle.kinds.specs.Kinds.{answer, filled}
 use Rattle.kinds.specs.Views.{view}
 use Rattle.kinds.specs.ActionLaws.{page-reply_none, page-reply_short, page-reply_done, parse-good, action-ready}
 use Rattle.kinds.proofs.page.PageKindKind.effect.Goals as goal
 
-pub returns-in-default : goal.returns-in-default
-returns-in-default c =
-    let r = page-reply_none c.args.body.now c.args.old.now (length c.args.new.now) c.in-default.ensures in
+pub returns-in_default : goal.returns-in_default
+returns-in_default c =
+    let r = page-reply_none c.args.body.now c.args.old.now (length c.args.new.now) c.in_default.ensures in
     record { answer = ap answer (sym r); buffer = ap (λ x. filled x c.args.new.now) (sym r) }
 
 -- the test of the lengths, at the operation's sets

@@ -23,16 +23,16 @@ returns-in-2 g c =
     let r = ap (λ t. reply g.B.Kind.meaning t old (length new)) (take_rest b 1) ∙ sym (pair_second g.A.Kind.meaning g.B.Kind.meaning b old (length new) tag).1 in
     record { answer = c.effect-in-2.ensures.answer ∙ ap answer r; buffer = c.effect-in-2.ensures.buffer ∙ ap (λ x. filled x new) r }
 
-pub returns-in-default : goal.returns-in-default
-returns-in-default g c =
+pub returns-in_default : goal.returns-in_default
+returns-in_default g c =
     let b = c.args.body.now in
     let past : length b ≤ 0 = grind (arith, nat_tests) in
     let z = get_or_past b 0 0 past in
     let r = (pair_neither g.A.Kind.meaning g.B.Kind.meaning b c.args.old.now (length c.args.new.now) (λ e. omega arith) (λ e. omega arith)).1 in
     record { answer = ap answer (sym r); buffer = ap (λ x. filled x c.args.new.now) (sym r) }
 
-pub returns-in-default·2 : goal.returns-in-default·2
-returns-in-default·2 g c =
+pub returns-in_default-2 : goal.returns-in_default-2
+returns-in_default-2 g c =
     let b = c.args.body.now in
     let r = (pair_neither g.A.Kind.meaning g.B.Kind.meaning b c.args.old.now (length c.args.new.now) (λ e. grind arith) (λ e. grind arith)).1 in
     record { answer = ap answer (sym r); buffer = ap (λ x. filled x c.args.new.now) (sym r) }

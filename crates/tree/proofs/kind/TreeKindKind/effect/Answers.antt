@@ -7,9 +7,9 @@ use Rattle.tree.specs.StepLaws.{parse-good, step-ready}
 use Rattle.tree.specs.TreeLaws.{tree-reply_none, tree-reply_short, tree-reply_done}
 use Rattle.tree.proofs.kind.TreeKindKind.effect.Goals as goal
 
-pub returns-in-default : goal.returns-in-default
-returns-in-default g c =
-    let r = tree-reply_none g.O.KeyOrder.ordering c.args.body.now c.args.old.now (length c.args.new.now) c.in-default.ensures in
+pub returns-in_default : goal.returns-in_default
+returns-in_default g c =
+    let r = tree-reply_none g.O.KeyOrder.ordering c.args.body.now c.args.old.now (length c.args.new.now) c.in_default.ensures in
     record { answer = ap answer (sym r); buffer = ap (λ x. filled x c.args.new.now) (sym r) }
 
 pub returns-then-not-sized : goal.returns-then-not-sized
