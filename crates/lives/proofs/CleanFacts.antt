@@ -18,6 +18,9 @@ use Rattle.graph.specs.Ops.{nothing}
 use Rattle.graph.specs.Listing.{writes_inside}
 use Rattle.graph.proofs.ListLaws.{listed-dirty}
 use Rattle.tables.specs.DirtyOps.{counts, higher, highest_among, numbers}
+use Rattle.volume.specs.declared.status.Status.{Status}
+use Rattle.volume.specs.declared.status.Status.TheVariants.{Well}
+use Rattle.volume.specs.Statuses.{halted_by}
 use Rattle.volume.specs.Volumes.{Volume, Told}
 use Rattle.volume.specs.Flushing.{first_waiting, flush_check, GroupInstalled, FlushedWell, Flushed}
 use Rattle.lives.specs.Books.{Book, next_of, next_logged, history_of}
@@ -44,7 +47,7 @@ highest_of_none : (g a : ℕ) (ops : List Op) → filter (counts g a) ops ≡ []
 highest_of_none g a ops e = ap (λ (xs : List Op). fold higher None (numbers xs)) e
 
 module _ (k : Meaning) (b : Book) (v : Volume) (I : ℕ → Bool) (t : ℕ) (booked : Booked k b) (kept : Kept k b I t (ends_of v)) (upheld : Upheld k b I t v)
-    (well : v.halted ≡ None) (logged : next_logged b ≡ next_of b) where
+    (well : v.status ≡ Well) (logged : next_logged b ≡ next_of b) where
   none-counts : (g : ℕ) → filter (counts g (first_waiting v)) v.dirty ≡ []
   none-counts g = kept-none (counts g (first_waiting v)) v.dirty (All-from_get_or (λ o. counts g (first_waiting v) o ≡ false) v.dirty nothing (λ i l.
       let m = (get_or v.dirty i nothing).number in
@@ -69,7 +72,7 @@ module _ (k : Meaning) (b : Book) (v : Volume) (I : ℕ → Bool) (t : ℕ) (boo
   pub ready-passes : (p group : ℕ) (o : Option Report) (v' : Volume) → Ready (dirty_in v) p → Flushed v p group o v' → PassedOrLost o
   ready-passes p group o v' ready c =
       let one : cond (leb 64 p) ((o ≡ Some (report (NoSuchPage p))) × (v' ≡ v)) (FlushedWell v p group o v') =
-      subst (λ (x : Option Report). MatchOption x (cond (leb 64 p) ((o ≡ Some (report (NoSuchPage p))) × (v' ≡ v)) (FlushedWell v p group o v')) (λ r. (o ≡ Some r) × (v' ≡ v))) well c in
+      subst (λ (s : Status). MatchOption (halted_by s) (cond (leb 64 p) ((o ≡ Some (report (NoSuchPage p))) × (v' ≡ v)) (FlushedWell v p group o v')) (λ r. (o ≡ Some r) × (v' ≡ v))) well c in
       let in' = dirty-within k b v I t booked kept upheld p ready.is_dirty in
       let two : FlushedWell v p group o v' =
       subst (λ (x : Bool). cond x ((o ≡ Some (report (NoSuchPage p))) × (v' ≡ v)) (FlushedWell v p group o v')) (lt-leb 64 p in') one in

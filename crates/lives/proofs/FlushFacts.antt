@@ -26,14 +26,17 @@ use Rattle.graph.proofs.ListLaws.{listed-graph, listed-install, dirty-among}
 use Rattle.tables.specs.DirtyOps.{kept as keptOps, counts, counted, highest_among, numbers}
 use Rattle.tables.proofs.ListedLaws.{highest_is}
 use Rattle.volume.specs.Working.{in_row, taken}
-use Rattle.volume.specs.Volumes.{Volume, Told, halting}
+use Rattle.volume.specs.declared.status.Status.{Status}
+use Rattle.volume.specs.declared.status.Status.TheVariants.{Well, Halted}
+use Rattle.volume.specs.Statuses.{halted_by, halting}
+use Rattle.volume.specs.Volumes.{Volume, Told}
 use Rattle.volume.specs.Flushing.{first_waiting, wait_fault, flush_check, with_store, GroupInstalled, FlushedWell, Flushed}
 use Rattle.volume.specs.Surviving.{page_of, stored_pages}
 use Rattle.lives.specs.Books.{Book, next_of, next_logged, history_of}
 use Rattle.lives.specs.Lives.{ends_of}
 use Rattle.lives.specs.Lives.State.{up}
 use Rattle.lives.proofs.Keeping.{Keeps, Kept, Upheld, Booked}
-use Rattle.lives.proofs.FormatLaws.{none-some, check-none}
+use Rattle.lives.proofs.FormatLaws.{none-some, well-halted, check-none}
 use Rattle.lives.proofs.StoreFacts.{install_live}
 use Rattle.lives.proofs.ListFacts.{waits-length}
 use Rattle.lives.proofs.RowFacts.{in_row_length, pictured-row, image-of_length, image-of_page}
@@ -218,9 +221,9 @@ module _ (k : Meaning) (b : Book) (v : Volume) (I : ℕ → Bool) (t : ℕ) (boo
       );
     }
 
-    module _ (well : v.halted ≡ None) where
-      halts : (plan : ℕ → List ℕ) (s : Store) (x : ℕ) → (with_store s plan group (Some (report (PowerLost x))) v).halted ≡ None → ⊥
-      halts plan s x z = none-some (report (PowerLost x)) (sym z ∙ ap (λ (q : Option Report). halting q (Some (report (PowerLost x)))) well)
+    module _ (well : v.status ≡ Well) where
+      halts : (plan : ℕ → List ℕ) (s : Store) (x : ℕ) → (with_store s plan group (Some (report (PowerLost x))) v).status ≡ Well → ⊥
+      halts plan s x z = well-halted (PowerLost x) (sym z ∙ ap (λ (q : Status). halting q (Some (report (PowerLost x)))) well)
 
       ended : (plan : ℕ → List ℕ) (e : Ending) → Keeps k b (up (with_store (end_store e group (in_row v.images) v.store) plan group (end_fault e (v.plan group)) v))
       ended plan Passes = record {
@@ -290,23 +293,23 @@ unhindered v p group before e =
     }
 
 pub flush-keeps_all : (k : Meaning) (b : Book) (v v' : Volume) (p group : ℕ) (o : Option Report) → Flushed v p group o v' → Keeps k b (up v) → Keeps k b (up v')
-flush-keeps_all k b v v' p group o c keeps = go v.halted refl c
+flush-keeps_all k b v v' p group o c keeps = go v.status refl c
   where
     same : v' ≡ v → Keeps k b (up v')
     same e = subst (λ (x : Volume). Keeps k b (up x)) (sym e) keeps
 
-    checks : v.halted ≡ None → (before : ℕ) → Told v.dirty p (group, before) → (x : Option Report) → flush_check v p group before ≡ x
+    checks : v.status ≡ Well → (before : ℕ) → Told v.dirty p (group, before) → (x : Option Report) → flush_check v p group before ≡ x
         → MatchOption x (GroupInstalled v group o v') (λ r. (o ≡ Some r) × (v' ≡ v)) → Keeps k b (up v')
     checks well before told None ok c =
         let u = unhindered v p group before ok in
         installed-keeps k b v keeps.I keeps.t keeps.booked keeps.kept (keeps.upheld well) p group before told u.some-group u.none_before u.none-waits well o v' c
     checks well before told (Some r) ok c = same c.1
 
-    pages : v.halted ≡ None → (x : Bool) → cond x ((o ≡ Some (report (NoSuchPage p))) × (v' ≡ v)) (FlushedWell v p group o v') → Keeps k b (up v')
+    pages : v.status ≡ Well → (x : Bool) → cond x ((o ≡ Some (report (NoSuchPage p))) × (v' ≡ v)) (FlushedWell v p group o v') → Keeps k b (up v')
     pages well true c = same c.1
     pages well false c = checks well c.before c.told (flush_check v p group c.before) refl c.call
 
-    go : (h : Option Report) → v.halted ≡ h
-        → MatchOption h (cond (leb 64 p) ((o ≡ Some (report (NoSuchPage p))) × (v' ≡ v)) (FlushedWell v p group o v')) (λ r. (o ≡ Some r) × (v' ≡ v)) → Keeps k b (up v')
-    go None well c = pages well (leb 64 p) c
-    go (Some r) halted c = same c.1
+    go : (h : Status) → v.status ≡ h
+        → MatchOption (halted_by h) (cond (leb 64 p) ((o ≡ Some (report (NoSuchPage p))) × (v' ≡ v)) (FlushedWell v p group o v')) (λ r. (o ≡ Some r) × (v' ≡ v)) → Keeps k b (up v')
+    go Well well c = pages well (leb 64 p) c
+    go (Halted f) halted c = same c.1

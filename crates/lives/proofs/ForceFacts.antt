@@ -13,7 +13,10 @@ use Rattle.media.proofs.PlanLaws.{passed}
 use Rattle.kinds.specs.Kinds.{Meaning, Lawful}
 use Rattle.volume.specs.Working.{number_of}
 use Rattle.volume.specs.LogReading.{place_of, record_block}
-use Rattle.volume.specs.Volumes.{Volume, halting}
+use Rattle.volume.specs.declared.status.Status.{Status}
+use Rattle.volume.specs.declared.status.Status.TheVariants.{Well, Halted}
+use Rattle.volume.specs.Statuses.{halted_by, fault_of, halting}
+use Rattle.volume.specs.Volumes.{Volume}
 use Rattle.volume.specs.Forcing.{Logged, with_log, ForcedWell, Forced}
 use Rattle.volume.specs.Forcing.Logged.{all, dies, goes}
 use Rattle.lives.specs.Books.{Book, next_of, next_logged, body_at, dying_record, with_all, with_before, fed}
@@ -22,7 +25,7 @@ use Rattle.lives.specs.Lives.{ends_of, answered, fate_in, fate_by}
 use Rattle.lives.specs.Lives.State.{up}
 use Rattle.lives.proofs.Keeping.{Keeps, Kept, Upheld, Booked, LogOf, Waits, block_for}
 use Rattle.lives.proofs.BlockFacts.{BlockOf, block-of}
-use Rattle.lives.proofs.FormatLaws.{none-some}
+use Rattle.lives.proofs.FormatLaws.{none-some, well-halted}
 use Rattle.lives.proofs.ListFacts.{waits-length}
 
 -- ---- one record more in the log
@@ -159,7 +162,7 @@ booked-block k law b booked i low high =
 -- ---- the whole
 
 module _ (k : Meaning) (law : Lawful k) (b : Book) (v : Volume) (I : ℕ → Bool) (t : ℕ) (booked : Booked k b) (kept : Kept k b I t (ends_of v)) (upheld : Upheld k b I t v)
-    (well : v.halted ≡ None) where
+    (well : v.status ≡ Well) where
   good : BlocksGood (block_for k b) (next_logged b) (next_of b)
   good i low high = let x = booked-block k law b booked i (omega arith) high in (x.long, x.number)
 
@@ -232,7 +235,7 @@ module _ (k : Meaning) (law : Lawful k) (b : Book) (v : Volume) (I : ℕ → Boo
           not_short = kept.not_short;
           sized = kept.sized;
         };
-        upheld = λ z. absurd (none-some r (sym z ∙ ap (λ (q : Option Report). halting q (Some r)) well ∙ ap (λ j. cond (eqb j 4) (Some r) None) (ap (λ (y : Report). y.number) e)));
+        upheld = λ z. absurd (well-halted (fault_of r) (sym z ∙ ap (λ (q : Status). halting q (Some r)) well ∙ ap (λ j. cond (eqb j 4) (Halted (fault_of r)) Well) (ap (λ (y : Report). y.number) e)));
       }
     where
       at_most : (c : Bool) → cond c 1 0 ≤ 1
@@ -255,13 +258,13 @@ module _ (k : Meaning) (law : Lawful k) (b : Book) (v : Volume) (I : ℕ → Boo
           subst (λ x. Keeps k (with_before b x DiesNew) (up (with_log m left (Some r) v))) (sym (dying-record b w.0 r w.1 w.2 near w.3)) (forced-part w.0 r DiesNew m left w.1 w.2 w.3 w.4)
 
 pub force-keeps_all : (k : Meaning) → Lawful k → (b : Book) (v v' : Volume) (o : Option Report) (c : Forced v o v') → Keeps k b (up v)
-    → Keeps k (fed b (force (answered (v.next - 1) o) (fate_by v v' o v.halted c))) (up v')
-force-keeps_all k law b v v' o c keeps = go v.halted refl c
+    → Keeps k (fed b (force (answered (v.next - 1) o) (fate_by v v' o (halted_by v.status) c))) (up v')
+force-keeps_all k law b v v' o c keeps = go v.status refl c
   where
-    go : (h : Option Report) → v.halted ≡ h → (c : MatchOption h (ForcedWell v o v') (λ r. (o ≡ Some r) × (v' ≡ v))) → Keeps k (fed b (force (answered (v.next - 1) o) (fate_by v v' o h c))) (up v')
-    go None well c =
+    go : (h : Status) → v.status ≡ h → (c : MatchOption (halted_by h) (ForcedWell v o v') (λ r. (o ≡ Some r) × (v' ≡ v))) → Keeps k (fed b (force (answered (v.next - 1) o) (fate_by v v' o (halted_by h) c))) (up v')
+    go Well well c =
         subst (λ (x : Volume). Keeps k (fed b (force (answered (v.next - 1) o) (fate_in c.logged))) (up x)) (sym c.after)
         (forced-well k law b v keeps.I keeps.t keeps.booked keeps.kept (keeps.upheld well) well (v.next - 1) c.logged)
-    go (Some r) halted c =
+    go (Halted f) halted c =
         subst (λ (x : Option Report). Keeps k (fed b (force (answered (v.next - 1) x) Lives)) (up v')) (sym c.0)
         (subst (λ (x : Volume). Keeps k b (up x)) (sym c.1) keeps)

@@ -23,6 +23,8 @@ use Rattle.kinds.specs.Kinds.{Meaning}
 use Rattle.logblocks.specs.Blocks.{header_of}
 use Rattle.redo.specs.Histories.{writes, image}
 use Rattle.redo.proofs.HistoryLaws.{image-still}
+use Rattle.volume.specs.declared.status.Status.{Status}
+use Rattle.volume.specs.declared.status.Status.TheVariants.{Well, Halted}
 use Rattle.volume.specs.Working.{number_of, taken}
 use Rattle.volume.specs.LogReading.{last_number}
 use Rattle.volume.specs.Volumes.{Ends}
@@ -33,6 +35,10 @@ use Rattle.lives.specs.Books.{empty_book, history_of}
 use Rattle.lives.specs.Lives.State.{down}
 use Rattle.lives.proofs.Keeping.{Keeps, Kept, Booked, LogOf, block_for}
 use Rattle.lives.proofs.BlockFacts.{header-length}
+
+-- a well volume is not halted
+pub well-halted : (f : Fault) → ◌≡◌ {A = Status} Well (Halted f) → ⊥
+well-halted f h = let z : ◌≡◌ {A = ℕ} 0 1 = cc in omega arith
 
 pub none-some : {A : Type 0} (x : A) → ◌≡◌ {A = Option A} None (Some x) → ⊥
 none-some x h = let z : ◌≡◌ {A = ℕ} 0 1 = cc in omega arith

@@ -23,7 +23,10 @@ use Rattle.redo.proofs.CountLaws.{one-group_fewer, no_groups_clean_lem}
 use Rattle.graph.specs.declared.op.Op.{Op}
 use Rattle.graph.specs.Ops.{dirty_ops}
 use Rattle.tables.specs.DirtyOps.{kept as keptOps}
-use Rattle.volume.specs.Volumes.{Ends, Volume, Told, halting}
+use Rattle.volume.specs.declared.status.Status.{Status}
+use Rattle.volume.specs.declared.status.Status.TheVariants.{Well, Halted}
+use Rattle.volume.specs.Statuses.{halted_by, halting}
+use Rattle.volume.specs.Volumes.{Ends, Volume, Told}
 use Rattle.volume.specs.Forcing.{ForcedWell, trimmed_to, TrimmedWell}
 use Rattle.volume.specs.Flushing.{flush_check, still_dirty, GroupInstalled, FlushedWell, Flushed}
 use Rattle.volume.specs.Working.{in_row}
@@ -110,7 +113,7 @@ abbrev Fewer : (ℕ → Page) → Volume → Option Report → ℕ → Type 0
 Fewer w v' None i = (j : ℕ) × (i ≡ suc j) × Tracked w v' j
 Fewer w v' (Some r) i = Tracked w v' i
 
-module _ (k : Meaning) (b : Book) (v v' : Volume) (p group : ℕ) (o : Option Report) (i : ℕ) (keeps : Keeps k b (up v)) (well : v.halted ≡ None) (before : ℕ)
+module _ (k : Meaning) (b : Book) (v v' : Volume) (p group : ℕ) (o : Option Report) (i : ℕ) (keeps : Keeps k b (up v)) (well : v.status ≡ Well) (before : ℕ)
     (told : Told v.dirty p (group, before)) (u : Unhindered v group before) (g : GroupInstalled v group o v') (tr : Tracked (after (history_of k b) (next_of b)) v i) where
   abbrev w : ℕ → Page
   w = after (history_of k b) (next_of b)
@@ -133,7 +136,7 @@ module _ (k : Meaning) (b : Book) (v v' : Volume) (p group : ℕ) (o : Option Re
       let rest : Rest (dirty_in v) (dirty_in v') G = subst (λ (ops : List Op). Rest (dirty_in v) (dirty_ops ops) G) (sym new)
       (rest-lists k b v keeps.I keeps.t keeps.booked keeps.kept upheld p group before told u.some-group u.none_before u.none-waits) in
       let left = rest-count (dirty_in v) (dirty_in v') p G i (λ q. told.group q) rest tr.counted in
-      let well' : v'.halted ≡ None = ap (λ (x : Volume). x.halted) g.after ∙ ap₂ halting well e in (
+      let well' : v'.status ≡ Well = ap (λ (x : Volume). x.status) g.after ∙ ap₂ halting well e in (
         left.0,
         one-group_fewer (dirty_in v) (dirty_in v') tr.places p G i left.0 tr.finite
             (p-dirty k b v keeps.I keeps.t keeps.booked keeps.kept upheld p group before told u.some-group u.none_before u.none-waits) (λ q. told.group q) rest tr.counted left.1,
@@ -170,25 +173,25 @@ module _ (k : Meaning) (b : Book) (v v' : Volume) (p group : ℕ) (o : Option Re
 
 flushed-fewer : (k : Meaning) (b : Book) (v v' : Volume) (p group : ℕ) (o : Option Report) (i : ℕ) → Keeps k b (up v) → Flushed v p group o v'
     → Tracked (after (history_of k b) (next_of b)) v i → Fewer (after (history_of k b) (next_of b)) v' o i
-flushed-fewer k b v v' p group o i keeps c tr = go v.halted refl c
+flushed-fewer k b v v' p group o i keeps c tr = go v.status refl c
   where
     refused : (r : Report) → o ≡ Some r → v' ≡ v → Fewer (after (history_of k b) (next_of b)) v' o i
     refused r e s = subst (λ (x : Option Report). Fewer (after (history_of k b) (next_of b)) v' x i) (sym e)
         (same-all (after (history_of k b) (next_of b)) v v' i (ap (λ (x : Volume). x.dirty) s) (ap (λ (x : Volume). x.store) s) tr)
 
-    checks : v.halted ≡ None → (before : ℕ) → Told v.dirty p (group, before) → (x : Option Report) → flush_check v p group before ≡ x
+    checks : v.status ≡ Well → (before : ℕ) → Told v.dirty p (group, before) → (x : Option Report) → flush_check v p group before ≡ x
         → MatchOption x (GroupInstalled v group o v') (λ r. (o ≡ Some r) × (v' ≡ v)) → Fewer (after (history_of k b) (next_of b)) v' o i
     checks well before told None ok g = installed-fewer k b v v' p group o i keeps well before told (unhindered v p group before ok) g tr (flush-keeps_all k b v v' p group o c keeps)
     checks well before told (Some r) ok g = refused r g.0 g.1
 
-    pages : v.halted ≡ None → (x : Bool) → cond x ((o ≡ Some (report (NoSuchPage p))) × (v' ≡ v)) (FlushedWell v p group o v') → Fewer (after (history_of k b) (next_of b)) v' o i
+    pages : v.status ≡ Well → (x : Bool) → cond x ((o ≡ Some (report (NoSuchPage p))) × (v' ≡ v)) (FlushedWell v p group o v') → Fewer (after (history_of k b) (next_of b)) v' o i
     pages well true g = refused (report (NoSuchPage p)) g.0 g.1
     pages well false g = checks well g.before g.told (flush_check v p group g.before) refl g.call
 
-    go : (h : Option Report) → v.halted ≡ h
-        → MatchOption h (cond (leb 64 p) ((o ≡ Some (report (NoSuchPage p))) × (v' ≡ v)) (FlushedWell v p group o v')) (λ r. (o ≡ Some r) × (v' ≡ v)) → Fewer (after (history_of k b) (next_of b)) v' o i
-    go None well g = pages well (leb 64 p) g
-    go (Some r) halted g = refused r g.0 g.1
+    go : (h : Status) → v.status ≡ h
+        → MatchOption (halted_by h) (cond (leb 64 p) ((o ≡ Some (report (NoSuchPage p))) × (v' ≡ v)) (FlushedWell v p group o v')) (λ r. (o ≡ Some r) × (v' ≡ v)) → Fewer (after (history_of k b) (next_of b)) v' o i
+    go Well well g = pages well (leb 64 p) g
+    go (Halted f) halted g = refused (report f) g.0 g.1
 
 -- ---- one call, and a life that goes on
 
@@ -209,7 +212,7 @@ module _ (k : Meaning) (law : Lawful k) (wf : AllWellFormed k) (recovers : (e : 
       → (j : ℕ) × (j + one_flush e ≡ i) × Tracks (after (history_of k b) (next_of b)) s' j
   step-tracks (runs v body) no_run b keeps i t = absurd (both_ways false refl no_run)
   step-tracks (forces {v} {v'} o c) no_run b keeps i t =
-      let same = forced-same v v' o v.halted c in
+      let same = forced-same v v' o (halted_by v.status) c in
       (i, omega arith, same-all (after (history_of k b) (next_of b)) v v' i same.0 same.1 t)
   step-tracks (flushes {v} {v'} {page} group o c) no_run b keeps i t = ends o (flushed-fewer k b v v' page group o i keeps c t)
     where
@@ -218,7 +221,7 @@ module _ (k : Meaning) (law : Lawful k) (wf : AllWellFormed k) (recovers : (e : 
       ends None f = (f.0, (let e = f.1 in omega arith), f.2)
       ends (Some r) f = (i, omega arith, f)
   step-tracks (trims {v} {v'} o c) no_run b keeps i t =
-      let same = trimmed-same v v' o v.halted (eqb (trimmed_to v) v.first) c in
+      let same = trimmed-same v v' o (halted_by v.status) (eqb (trimmed_to v) v.first) c in
       (i, omega arith, same-all (after (history_of k b) (next_of b)) v v' i same.0 same.1 t)
   step-tracks (stops v) no_run b keeps i t =
       (i, omega arith, λ none p. t.stored p (no_groups_clean_lem (dirty_in v) t.places t.finite (subst (GroupCount (dirty_in v)) none t.counted) p))
@@ -248,7 +251,7 @@ module _ (k : Meaning) (law : Lawful k) (wf : AllWellFormed k) (recovers : (e : 
         tracks = subst (λ (w : ℕ → Page). Tracks w s' one.0) ih.same one.2;
       }
 
-  pub flushed-clean : (v : Volume) (es : List Event) (s : State) (b : Book) → Keeps k b (up v) → v.halted ≡ None → GoesOn k (up v) es s
+  pub flushed-clean : (v : Volume) (es : List Event) (s : State) (b : Book) → Keeps k b (up v) → v.status ≡ Well → GoesOn k (up v) es s
       → AllByRecursion (λ e. neither_run_nor_mount e ≡ true) es → Tracked (after (history_of k b) (next_of b)) v (flushesIn es) → Clean (history_of k b) (next_of b) s
   flushed-clean v es s b keeps well goes no_run c =
       let t = goes-tracks goes no_run b keeps (flushesIn es) c in

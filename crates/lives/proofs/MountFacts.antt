@@ -22,6 +22,7 @@ use Rattle.redo.proofs.RecoveryLaws.{installed-recoverable}
 use Rattle.graph.specs.Ops.{nothing}
 use Rattle.graph.specs.Listing.{ScopeOf, Lists}
 use Rattle.graph.proofs.ListLaws.{scope-at, listed-dirty}
+use Rattle.volume.specs.Statuses.{halted_by}
 use Rattle.volume.specs.Working.{number_of, gathered, share_of, stamped, written, taken}
 use Rattle.volume.specs.LogReading.{place_of, record_block, bears, last_number, end_of}
 use Rattle.volume.specs.Performing.{outcome}
@@ -319,8 +320,8 @@ module _ (k : Meaning) (law : Lawful k) (b : Book) (e : Ends) (I : ℕ → Bool)
     }
 
 pub mount-keeps_all : (k : Meaning) → Lawful k → (b : Book) (e : Ends) → MountRecovers k e → Keeps k b (down e)
-    → Keeps k (fed b (mount (answered (length (mounted k e).dirty) (mounted k e).halted))) (up (mounted k e))
+    → Keeps k (fed b (mount (answered (length (mounted k e).dirty) (halted_by (mounted k e).status)))) (up (mounted k e))
 mount-keeps_all k law b e recovers keeps =
     subst (λ (x : Option Report). Keeps k (fed b (mount (answered (length (mounted k e).dirty) x))) (up (mounted k e)))
-    (sym (mount-recovered k law b e keeps.I keeps.t keeps.booked keeps.kept recovers).passes)
+    (sym (ap halted_by (mount-recovered k law b e keeps.I keeps.t keeps.booked keeps.kept recovers).passes))
     (mount-keeps k law b e keeps.I keeps.t keeps.booked keeps.kept recovers)

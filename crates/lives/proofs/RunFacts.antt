@@ -22,10 +22,12 @@ use Rattle.redo.proofs.KeepLaws.{run-keeps, extended-after, same_operation, new-
 use Rattle.graph.specs.declared.op.Op.{Op}
 use Rattle.graph.specs.Listing.{Lists}
 use Rattle.graph.proofs.ListLaws.{listed-run}
+use Rattle.volume.specs.declared.status.Status.{Status}
+use Rattle.volume.specs.declared.status.Status.TheVariants.{Well, Halted}
 use Rattle.volume.specs.Working.{number_of, contents_in, gathered, share_of, stamped, written}
 use Rattle.volume.specs.LogReading.{last_number}
 use Rattle.volume.specs.Performing.{outcome}
-use Rattle.volume.specs.Volumes.{Volume, or_else, room_fault, scope_fault, admit_fault, pages_fault, with_operation, entered, enter_fault, enter_after, unless_refused, run_fault, after_run}
+use Rattle.volume.specs.Volumes.{Volume, or_else, unless_halted, room_fault, scope_fault, admit_fault, pages_fault, with_operation, entered, enter_fault, enter_after, unless_refused, run_fault, after_run}
 use Rattle.volume.specs.Surviving.{page_of, stored_pages, shares, operation_by, operation_of}
 use Rattle.volume.proofs.WorkingLaws.{room-more}
 use Rattle.lives.specs.Books.{Book, next_of, next_logged, body_at, history_of, with_run, fed}
@@ -258,15 +260,15 @@ module _ (k : Meaning) (law : Lawful k) (wf : AllWellFormed k) (b : Book) (v : V
 
 -- ---- the checks
 
-or_else_none : (x y : Option Report) → or_else x y ≡ None → (x ≡ None) × (y ≡ None)
-or_else_none (Some r) y e = absurd (none-some r (sym e))
-or_else_none None y e = (refl, e)
+unless-none : (s : Status) (y : Option Report) → unless_halted s y ≡ None → (s ≡ Well) × (y ≡ None)
+unless-none (Halted f) y e = absurd (none-some (report f) (sym e))
+unless-none Well y e = (refl, e)
 
 pub run-keeps_all : (k : Meaning) → Lawful k → AllWellFormed k → (b : Book) (v : Volume) (body : List ℕ) → Keeps k b (up v)
     → Keeps k (fed b (ran-event body (answered v.next (run_fault k v body)))) (up (after_run k v body))
 run-keeps_all k law wf b v body keeps = admits (admit_fault k v body) refl
   where
-    takes : (r w : ℕ) → k.scope body ≡ Ok (r, w) → v.halted ≡ None → length body ≤ 232 → room_fault v ≡ None → (x : Result (List ℕ) ℕ) → outcome k body r v.images ≡ x
+    takes : (r w : ℕ) → k.scope body ≡ Ok (r, w) → v.status ≡ Well → length body ≤ 232 → room_fault v ≡ None → (x : Result (List ℕ) ℕ) → outcome k body r v.images ≡ x
         → Keeps k (fed b (ran-event body (answered v.next (pages_fault x)))) (up (entered x body r w v))
     takes r w scope well short room (Ok new) out =
         let r1 = check-none (leb 16 (length v.waiting)) (report WaitingFull) _ room in
@@ -276,7 +278,7 @@ run-keeps_all k law wf b v body keeps = admits (admit_fault k v body) refl
         (leb-false 16 (length v.waiting) r1.0) (leb-false 128 (v.next - v.first) r2.0) (eqb-false v.next last_number r3.0) out
     takes r w scope well short room (Err c) out = keeps
 
-    scopes : (s : Result (ℕ × ℕ) ℕ) → k.scope body ≡ s → v.halted ≡ None → length body ≤ 232 → scope_fault v s ≡ None
+    scopes : (s : Result (ℕ × ℕ) ℕ) → k.scope body ≡ s → v.status ≡ Well → length body ≤ 232 → scope_fault v s ≡ None
         → Keeps k (fed b (ran-event body (answered v.next (enter_fault k v body s)))) (up (enter_after k v body s))
     scopes (Ok (r, w)) scope well short room = takes r w scope well short room (outcome k body r v.images) refl
     scopes (Err c) scope well short room = absurd (none-some _ (sym room))
@@ -284,7 +286,7 @@ run-keeps_all k law wf b v body keeps = admits (admit_fault k v body) refl
     admits : (a : Option Report) → admit_fault k v body ≡ a
         → Keeps k (fed b (ran-event body (answered v.next (or_else a (enter_fault k v body (k.scope body)))))) (up (unless_refused a v (enter_after k v body (k.scope body))))
     admits None ok =
-        let one = or_else_none v.halted _ ok in
+        let one = unless-none v.status _ ok in
         let two = check-none (ltb 232 (length body)) (report (WrongLength (length body))) (scope_fault v (k.scope body)) one.1 in
         scopes (k.scope body) refl one.0 (ltb-false 232 (length body) two.0) two.1
     admits (Some r) ok = keeps

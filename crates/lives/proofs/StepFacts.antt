@@ -7,6 +7,7 @@ use Rattle.media.specs.declared.fate.Fate.{Fate}
 use Rattle.media.specs.Media.{Device}
 use Rattle.stores.specs.Stores.{Store}
 use Rattle.kinds.specs.Kinds.{Meaning}
+use Rattle.volume.specs.Statuses.{halted_by}
 use Rattle.volume.specs.Volumes.{Ends, Volume, run_fault, after_run}
 use Rattle.volume.specs.Forcing.{Forced, Trimmed}
 use Rattle.volume.specs.Flushing.{Flushed}
@@ -29,7 +30,7 @@ run-steps k v v' body r fault number after =
 
 pub force-steps : (k : Meaning) (v v' : Volume) (r : Result ℕ Fault) → Forced v (refusal r) v' → IfOk r (λ n. n ≡ v.next - 1) → (fate : Fate) × Steps k (up v) (force (reported r) fate) (up v')
 force-steps k v v' r forced number =
-    let fate = fate_by v v' (refusal r) v.halted forced in
+    let fate = fate_by v v' (refusal r) (halted_by v.status) forced in
     (fate, subst (λ a. Steps k (up v) (force a fate) (up v')) (answer-is r (v.next - 1) number) (forces (refusal r) forced))
 
 pub flush-steps : (k : Meaning) (v v' : Volume) (page group : ℕ) (r : Result ℕ Fault) → Flushed v page group (refusal r) v' → IfOk r (λ n. n ≡ size group) → Steps k (up v) (flush page (reported r)) (up v')
@@ -41,11 +42,11 @@ trim-steps k v v' r trimmed number = subst (λ a. Steps k (up v) (trim a) (up v'
 pub stop-steps : (k : Meaning) (v : Volume) (e : Ends) (n : ℕ) → n ≡ length v.waiting → e ≡ ends_of v → Steps k (up v) (stop n) (down e)
 stop-steps k v e n dropped same = subst (λ x. Steps k (up v) (stop n) (down x)) (sym same) (subst (λ m. Steps k (up v) (stop m) (down (ends_of v))) (sym dropped) (stops v))
 
-pub mount-steps : (k : Meaning) (e : Ends) (v : Volume) (r : Result ℕ Fault) → v ≡ mounted k e → IfOk r (λ n. n ≡ length v.dirty) → refusal r ≡ v.halted → Steps k (down e) (mount (reported r)) (up v)
+pub mount-steps : (k : Meaning) (e : Ends) (v : Volume) (r : Result ℕ Fault) → v ≡ mounted k e → IfOk r (λ n. n ≡ length v.dirty) → refusal r ≡ halted_by v.status → Steps k (down e) (mount (reported r)) (up v)
 mount-steps k e v r same count fault =
     subst (λ w. Steps k (down e) (mount (reported r)) (up w)) (sym same)
     (subst (λ a. Steps k (down e) (mount a) (up (mounted k e)))
-    (sym (ap (λ w. answered (length w.dirty) w.halted) same) ∙ ap (answered (length v.dirty)) (sym fault) ∙ answer-is r (length v.dirty) count)
+    (sym (ap (λ w. answered (length w.dirty) (halted_by w.status)) same) ∙ ap (answered (length v.dirty)) (sym fault) ∙ answer-is r (length v.dirty) count)
     (mounts e))
 
 -- ends in code that are equal are the same ends

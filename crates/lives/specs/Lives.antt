@@ -7,6 +7,7 @@ use Rattle.media.specs.declared.fate.Fate.TheVariants.{Lives}
 use Rattle.media.specs.Media.{Device}
 use Rattle.kinds.specs.Kinds.{Meaning}
 use Rattle.volume.specs.LogReading.{last_number}
+use Rattle.volume.specs.Statuses.{halted_by}
 use Rattle.volume.specs.Volumes.{Ends, Volume, run_fault, after_run}
 use Rattle.volume.specs.Forcing.{Logged, ForcedWell, Forced, Trimmed}
 use Rattle.volume.specs.Forcing.Logged.{all, dies, goes}
@@ -51,7 +52,7 @@ pub data Steps (k : Meaning) : State → Event → State → Type 0 where
   runs : (v : Volume) (body : List ℕ)
       → Steps k (up v) (run body (answered v.next (run_fault k v body))) (up (after_run k v body))
   forces : {v v' : Volume} (o : Option Report) (c : Forced v o v')
-      → Steps k (up v) (force (answered (v.next - 1) o) (fate_by v v' o v.halted c)) (up v')
+      → Steps k (up v) (force (answered (v.next - 1) o) (fate_by v v' o (halted_by v.status) c)) (up v')
   flushes : {v v' : Volume} {page : ℕ} (group : ℕ) (o : Option Report) → Flushed v page group o v'
       → Steps k (up v) (flush page (answered (size group) o)) (up v')
   trims : {v v' : Volume} (o : Option Report) → Trimmed v o v'
@@ -59,7 +60,7 @@ pub data Steps (k : Meaning) : State → Event → State → Type 0 where
   stops : (v : Volume)
       → Steps k (up v) (stop (length v.waiting)) (down (ends_of v))
   mounts : (e : Ends)
-      → Steps k (down e) (mount (answered (length (mounted k e).dirty) (mounted k e).halted)) (up (mounted k e))
+      → Steps k (down e) (mount (answered (length (mounted k e).dirty) (halted_by (mounted k e).status))) (up (mounted k e))
 
 -- A life: an accepted format with first number f, and then one call after another. The newest event stands first. (Numbers are of 32 bits.)
 pub data Life (k : Meaning) (f : ℕ) : List Event → State → Type 0 where
