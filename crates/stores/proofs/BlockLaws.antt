@@ -1,7 +1,7 @@
 -- What the code puts into a block, as the definitions have it.
-use Rattle.std.proofs.Common.{◌≡◌, ℕ, ◌+◌, ◌-◌, ◌*◌, ◌<◌, ◌≤◌, List, [], ◌∷◌, ◌++◌, length, take, drop, replicate, sym, refl, ap, ◌∙◌, ap₂, arith}
+use Rattle.std.proofs.Common.{◌≡◌, ℕ, ◌+◌, ◌-◌, ◌*◌, List, ◌++◌, length, take, drop, replicate, sym, ap, ◌∙◌, ap₂, arith}
 use borrow.Rule.Slice.PartMut.{put_mid}
-use Rattle.std.proofs.lemmas.List.{take_all, take-take, drop_all, append-nil, length-take, length-drop}
+use Rattle.std.proofs.lemmas.List.{take_all, take-take, drop_all, append-nil, length-drop}
 use Rattle.sets.specs.Words.{bytes_of, over}
 use Rattle.sets.proofs.WordLaws.{bytes-length}
 use Rattle.stores.specs.Images.{image_of, pictured}

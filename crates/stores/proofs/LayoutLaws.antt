@@ -1,8 +1,8 @@
 -- Where pages lie, and what a write to a block that no page uses leaves as it was.
-use Rattle.std.proofs.Common.{◌≡◌, ℕ, zero, suc, ◌+◌, ◌-◌, ◌*◌, ◌^◌, ◌<◌, ◌≤◌, Bool, true, false, cond, not, ◌&&◌, eqb, ltb, leb, ◌⊎◌, List, [], ◌∷◌, ◌++◌, map, length, get_or, take, drop, set, replicate, sym, refl, ap, ◌∙◌, subst, ap₂, inl, inr, arith}
+use Rattle.std.proofs.Common.{◌≡◌, ℕ, ◌+◌, ◌*◌, ◌^◌, ◌<◌, ◌≤◌, Bool, true, false, cond, not, ltb, List, [], ◌++◌, length, take, drop, set, replicate, sym, refl, ap, ◌∙◌, inl, inr, arith}
 use mathlib.Core.Path.{fun_ext}
-use Rattle.std.proofs.lemmas.List.{length-set, length-take, length-drop, length-append, length-replicate, get_or-set_same, get_or-set_other, take_at, take-take}
-use Rattle.std.proofs.lemmas.Bool.{cases_lt, cases_Bool, lt-ltb, le-ltb, both_ways, ltb-true, cond-true, cond-false}
+use Rattle.std.proofs.lemmas.List.{length-take, length-drop, length-append, get_or-set_same, get_or-set_other, take_at}
+use Rattle.std.proofs.lemmas.Bool.{cases_lt, lt-ltb, le-ltb, both_ways, cond-true, cond-false}
 use Rattle.sets.specs.Sets.{has}
 use Rattle.sets.specs.Words.{number, bytes_of}
 use Rattle.sets.proofs.WordLaws.{bytes-length, number-bytes}

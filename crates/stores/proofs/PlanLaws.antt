@@ -1,22 +1,22 @@
 -- The plans of the two stores: at every point all pages are old, or the set's pages are all new.
-use Rattle.std.proofs.Common.{◌≡◌, ℕ, zero, suc, ◌+◌, ◌-◌, ◌*◌, ◌^◌, ◌<◌, ◌≤◌, Bool, true, false, cond, not, ◌&&◌, eqb, ltb, leb, ◌⊎◌, List, [], ◌∷◌, ◌++◌, map, length, get_or, take, drop, set, Some, None, Option, sym, refl, ap, ◌∙◌, subst, ap₂, inl, inr, add-one, arith}
+use Rattle.std.proofs.Common.{◌≡◌, ℕ, zero, suc, ◌+◌, ◌^◌, ◌<◌, ◌≤◌, Bool, true, false, cond, not, eqb, ◌⊎◌, List, [], ◌∷◌, ◌++◌, map, length, set, Some, None, Option, sym, refl, ap, ◌∙◌, subst, ap₂, inl, inr, add-one, arith}
 use mathlib.Core.Path.{fun_ext}
 use lib.Bits.{bit_xor, xor_lt}
 use Rattle.std.proofs.lemmas.List.{length-set, get_or-set_same, map-append, append-nil, append_assoc}
 use Rattle.std.proofs.ByRecursion.{All-map, All-weaker}
-use Rattle.std.proofs.lemmas.Bool.{cases_lt, cases_eq, cases_Bool, both_ways, cond-true, cond-false, eq-eqb, ne_eqb}
+use Rattle.std.proofs.lemmas.Bool.{cases_lt, cases_eq, both_ways, cond-true, cond-false, eq-eqb, ne_eqb}
 use Rattle.sets.specs.Sets.{has, differs, rising, pages}
-use Rattle.sets.proofs.SetLaws.{has_within, has_above, has-none, has-xor, rising_none, rising-more, rising-all}
+use Rattle.sets.proofs.SetLaws.{has_above, has-none, has-xor, rising_none, rising-more, rising-all}
 use Rattle.faults.specs.Faults.{Report}
 use Rattle.media.specs.Media.{Device, block_at}
 use Rattle.media.specs.Plans.Ran.{done}
 use Rattle.media.specs.Plans.{Write, Ran, put, puts, Fitting, Throughout}
-use Rattle.media.proofs.PlanLaws.{ran_append, ran-cut, ran-keeps, throughout-append, throughout-last, throughout-weaker, throughout-first, puts-append, length-puts, fitting-append, atomic}
+use Rattle.media.proofs.PlanLaws.{ran_append, ran-cut, ran-keeps, throughout-append, throughout-last, throughout-weaker, puts-append, length-puts, fitting-append, atomic}
 use Rattle.stores.specs.Images.{image_of, pictured}
 use Rattle.stores.specs.Layout.{block_in, set_in, block_of_set, slot, page_in}
 use Rattle.stores.specs.Stores.{installed}
 use Rattle.stores.specs.Plans.{image_write, of_page, image_writes, set_write, every_page, settle_writes, journal_writes, shadow_writes, blocks_in, journal_plan, shadow_plan}
-use Rattle.stores.proofs.LayoutLaws.{image-length, image-again, picture_length, picture_again, slot-below, slot_same, slot-upper, slot-lower, slot-like, set-length, put-set, block-other, put-below, page-at, page-none, pages-same, put-spare, every}
+use Rattle.stores.proofs.LayoutLaws.{image-length, image-again, picture_length, picture_again, slot-below, slot_same, slot-upper, slot-lower, slot-like, set-length, put-set, block-other, page-at, page-none, pages-same, put-spare, every}
 
 -- ---- images of some pages, page by page
 

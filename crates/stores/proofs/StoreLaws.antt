@@ -1,16 +1,16 @@
 -- A run of a plan that installs a set is an install.
-use Rattle.std.proofs.Common.{◌≡◌, ℕ, zero, suc, ◌+◌, ◌^◌, ◌<◌, ◌≤◌, Bool, true, false, cond, not, ◌&&◌, eqb, ltb, leb, ◌⊎◌, List, [], ◌∷◌, ◌++◌, map, length, get_or, Some, None, Option, sym, refl, ap, ◌∙◌, subst, ap₂, inl, inr, arith}
+use Rattle.std.proofs.Common.{◌≡◌, ℕ, ◌^◌, ◌<◌, ◌≤◌, Bool, true, false, cond, not, ◌&&◌, eqb, leb, ◌⊎◌, List, [], ◌∷◌, ◌++◌, map, length, get_or, Some, None, Option, sym, refl, ap, ◌∙◌, subst, inl, inr, arith}
 use lib.Bits.{bit_xor}
 use Rattle.std.proofs.lemmas.List.{length-map, length-append}
-use Rattle.std.proofs.lemmas.Bool.{cases_Bool, cases_eq, eq-eqb, ne_eqb, eqb-true, leb-true, leb-false, le-leb, lt-leb, lt-ltb, le-ltb, cond-true, cond-false, both_ways}
-use Rattle.faults.specs.declared.fault.Fault.TheVariants.{NoSuchPage, WrongLength, PowerLost, TooShort}
+use Rattle.std.proofs.lemmas.Bool.{cases_eq, eq-eqb, ne_eqb, eqb-true, leb-true, leb-false, le-leb, lt-leb, cond-true, cond-false}
+use Rattle.faults.specs.declared.fault.Fault.TheVariants.{WrongLength, PowerLost, TooShort}
 use Rattle.faults.specs.Faults.{Report, report}
 use Rattle.media.specs.Media.{Device, Whole, block_count, check}
-use Rattle.media.specs.Plans.{Write, Ran, puts, Fitting, Throughout}
+use Rattle.media.specs.Plans.{Write, Ran}
 use Rattle.media.proofs.PlanLaws.{throughout-ran, ran-passed, ran-failed, ran-count, ran-lives, ran-nothing}
-use Rattle.stores.specs.Images.{image_of, blank, pictured}
-use Rattle.stores.specs.Layout.{block_in, set_in, slot, page_in}
-use Rattle.stores.specs.Stores.{State, Live, Dead, Short, Store, store_on, Ending, Passes, FailsOld, FailsNew, Possible, installed, install_fault, after_install, InstalledBy, Installed, end_fault, end_store, is_short, install_check, Carried}
+use Rattle.stores.specs.Images.{blank, pictured}
+use Rattle.stores.specs.Layout.{set_in, page_in}
+use Rattle.stores.specs.Stores.{State, Live, Dead, Short, Store, store_on, Ending, Passes, FailsOld, FailsNew, Possible, installed, InstalledBy, Installed, end_fault, end_store, is_short, install_check, Carried}
 use Rattle.stores.specs.Plans.{image_writes, set_write, every_page, settle_writes, journal_writes, shadow_writes, journal_plan, shadow_plan}
 use Rattle.stores.proofs.PlanLaws.{Installs, journal_none, journal_some, journal_installs, journal_plan_lem, shadow_none, shadow_some, shadow_installs, shadow_plan_lem}
 

@@ -1,5 +1,5 @@
 -- The block writes of an install, in order, for the journal store and for the shadow store.
-use Rattle.std.specs.Prelude.{ℕ, zero, suc, Bool, cond, not, List, [], ◌∷◌, ◌++◌, map, ◌==◌, bit_xor}
+use Rattle.std.specs.Prelude.{ℕ, cond, List, [], ◌∷◌, ◌++◌, map, ◌==◌, bit_xor}
 use Rattle.sets.specs.Sets.{has, pages}
 use Rattle.media.specs.Plans.{Write}
 use Rattle.stores.specs.Images.{image_of, pictured}

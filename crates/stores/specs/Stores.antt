@@ -1,5 +1,5 @@
 -- A page store: 64 images, and live, dead or short; what reading, installing and power-on do to it.
-use Rattle.std.specs.Prelude.{◌≡◌, ℕ, ◌<◌, Bool, true, false, cond, not, ◌&&◌, List, [], length, Some, None, Option, MatchOption, ◌==◌, nat_le, nat_lt, slice_index}
+use Rattle.std.specs.Prelude.{◌≡◌, ℕ, ◌<◌, Bool, true, false, cond, not, ◌&&◌, List, length, Some, None, Option, MatchOption, ◌==◌, nat_le, nat_lt, slice_index}
 use Rattle.sets.specs.Sets.{has}
 use Rattle.faults.specs.declared.fault.Fault.TheVariants.{NoSuchPage, WrongLength, PowerLost, TooShort}
 use Rattle.faults.specs.Faults.{Report, report}

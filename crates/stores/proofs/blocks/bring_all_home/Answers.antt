@@ -1,4 +1,4 @@
-use Rattle.std.proofs.Common.{◌≡◌, ℕ, ◌+◌, ◌<◌, Some, None, subst, arith}
+use Rattle.std.proofs.Common.{◌≡◌, ℕ, Some, None, subst, arith}
 use Rattle.std.proofs.lemmas.Result.{err_from_is_err_and}
 use Rattle.faults.specs.Faults.{report}
 use Rattle.media.specs.Media.{block_at}
@@ -15,32 +15,32 @@ loop-page-init g c =
     let m = g.M.Medium.model c.args.medium.now in
     run_none 0 c.args.mark (λ p. image_of (block_at m (slot every_page p))) m
 
-pub bring-home-requires : goal.bring-home-requires
-bring-home-requires g c = record { page = omega arith; there = omega (arith, ran-count c.loop-page.invariant, c.requires.there) }
+pub bring_home-requires : goal.bring_home-requires
+bring_home-requires g c = record { page = omega arith; there = omega (arith, ran-count c.loop-page.invariant, c.requires.there) }
 
 pub loop-page-preserved : goal.loop-page-preserved
 loop-page-preserved g c =
     let m = g.M.Medium.model c.args.medium.now in
     let m₁ = g.M.Medium.model c.loop-page.medium in
-    let m' = g.M.Medium.model c.bring-home.new.medium in
+    let m' = g.M.Medium.model c.bring_home.new.medium in
     let f = λ (p : ℕ). image_of (block_at m (slot every_page p)) in
     let n = c.loop-page.page in
     run_more 0 c.args.mark f n m m₁ m' c.loop-page.invariant
-    (subst (λ ws. Ran m₁ ws None m') (next-home c.args.mark m m₁ f n (omega arith) c.loop-page.invariant) c.in-ok-bring-home.ensures.ran)
+    (subst (λ ws. Ran m₁ ws None m') (next-home c.args.mark m m₁ f n (omega arith) c.loop-page.invariant) c.in_ok-bring_home.ensures.ran)
 
-pub returns-in-err-bring-home : goal.returns-in-err-bring-home
-returns-in-err-bring-home g c =
+pub returns-in_err-bring_home : goal.returns-in_err-bring_home
+returns-in_err-bring_home g c =
     let m = g.M.Medium.model c.args.medium.now in
     let m₁ = g.M.Medium.model c.loop-page.medium in
-    let m' = g.M.Medium.model c.bring-home.new.medium in
+    let m' = g.M.Medium.model c.bring_home.new.medium in
     let f = λ (p : ℕ). image_of (block_at m (slot every_page p)) in
     let n = c.loop-page.page in
-    let x = report c.in-err-bring-home.field-0.0 in
-    let p = err_from_is_err_and c.from-residual.result c.from-residual.ensures.1 in
+    let x = report c.in_err-bring_home.field-0.0 in
+    let p = err_from_is_err_and c.from_residual.result c.from_residual.ensures.1 in
     record {
       ran = rw (p.1, p.2)
           (run-cut 0 c.args.mark f n m m₁ m' x (omega arith) c.loop-page.invariant
-          (subst (λ ws. Ran m₁ ws (Some x) m') (next-home c.args.mark m m₁ f n (omega arith) c.loop-page.invariant) c.in-err-bring-home.ensures.ran));
+          (subst (λ ws. Ran m₁ ws (Some x) m') (next-home c.args.mark m m₁ f n (omega arith) c.loop-page.invariant) c.in_err-bring_home.ensures.ran));
     }
 
 pub returns : goal.returns

@@ -1,4 +1,4 @@
-use Rattle.std.proofs.Common.{◌≡◌, length, sym, refl, ap, ◌∙◌, arith}
+use Rattle.std.proofs.Common.{sym, ap, ◌∙◌, arith}
 use Rattle.stores.specs.Images.{image_of}
 use Rattle.media.proofs.MediaLaws.{read_passes}
 use Rattle.stores.proofs.BlockLaws.{tail_cleared}

@@ -1,4 +1,3 @@
-use Rattle.std.proofs.Common.{◌∙◌}
 use Rattle.stores.proofs.BlockLaws.{image-front}
 use Rattle.stores.proofs.blocks.picture.Goals as goal
 

@@ -1,6 +1,4 @@
-use Rattle.std.proofs.Common.{sym, ◌∙◌, subst}
-use Rattle.media.specs.Plans.{Ran}
-use Rattle.media.specs.Plans.Ran.{done}
+use Rattle.std.proofs.Common.{sym}
 use Rattle.faults.specs.Faults.{refusal}
 use Rattle.media.proofs.PlanLaws.{ran-wrote}
 use Rattle.stores.specs.Images.{pictured}
@@ -20,5 +18,5 @@ returns g c =
     let f = pictured c.args.images.now in
     record {
       ran = page-in c.args.upper c.args.set f c.args.page m m' (refusal c.write.result) (sym c.if-not-contains.ensures)
-          (ran-wrote (image_write c.args.upper f c.args.page) m m' c.slot-of.result c.picture-block.result (refusal c.write.result) c.write.ensures.wrote c.slot-of.ensures c.picture-block.ensures);
+          (ran-wrote (image_write c.args.upper f c.args.page) m m' c.slot_of.result c.picture-block.result (refusal c.write.result) c.write.ensures.wrote c.slot_of.ensures c.picture-block.ensures);
     }

@@ -1,4 +1,4 @@
-use Rattle.std.proofs.Common.{◌≡◌, ℕ, ◌<◌, None, subst, arith}
+use Rattle.std.proofs.Common.{◌≡◌, None, subst, arith}
 use Rattle.std.proofs.lemmas.Result.{err_from_is_err_and}
 use Rattle.faults.specs.Faults.{report}
 use Rattle.media.specs.Plans.{Ran}
@@ -12,17 +12,17 @@ loop-page-init g c = run_none c.args.upper c.args.set (pictured c.args.images.no
 pub loop-page-preserved : goal.loop-page-preserved
 loop-page-preserved g c =
     run_more c.args.upper c.args.set (pictured c.args.images.now) c.loop-page.page
-    (g.M.Medium.model c.args.medium.now) (g.M.Medium.model c.loop-page.medium) (g.M.Medium.model c.put-image.new.medium)
-    c.loop-page.invariant c.in-ok-put-image.ensures.ran
+    (g.M.Medium.model c.args.medium.now) (g.M.Medium.model c.loop-page.medium) (g.M.Medium.model c.put_image.new.medium)
+    c.loop-page.invariant c.in_ok-put_image.ensures.ran
 
-pub returns-in-err-put-image : goal.returns-in-err-put-image
-returns-in-err-put-image g c =
-    let p = err_from_is_err_and c.from-residual.result c.from-residual.ensures.1 in
+pub returns-in_err-put_image : goal.returns-in_err-put_image
+returns-in_err-put_image g c =
+    let p = err_from_is_err_and c.from_residual.result c.from_residual.ensures.1 in
     record {
       ran = rw (p.1, p.2)
           (run-cut c.args.upper c.args.set (pictured c.args.images.now) c.loop-page.page
-          (g.M.Medium.model c.args.medium.now) (g.M.Medium.model c.loop-page.medium) (g.M.Medium.model c.put-image.new.medium)
-          (report c.in-err-put-image.field-0.0) (omega arith) c.loop-page.invariant c.in-err-put-image.ensures.ran);
+          (g.M.Medium.model c.args.medium.now) (g.M.Medium.model c.loop-page.medium) (g.M.Medium.model c.put_image.new.medium)
+          (report c.in_err-put_image.field-0.0) (omega arith) c.loop-page.invariant c.in_err-put_image.ensures.ran);
     }
 
 pub returns : goal.returns

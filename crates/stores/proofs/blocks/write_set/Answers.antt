@@ -8,4 +8,4 @@ pub returns : goal.returns
 returns g c =
     let m = g.M.Medium.model c.args.medium.now in
     let m' = g.M.Medium.model c.write.new.self in
-    record { ran = ran-wrote (set_write c.args.set) m m' 128 c.set-block-block.result (refusal c.write.result) c.write.ensures.wrote refl c.set-block-block.ensures }
+    record { ran = ran-wrote (set_write c.args.set) m m' 128 c.set_block-block.result (refusal c.write.result) c.write.ensures.wrote refl c.set_block-block.ensures }

@@ -7,12 +7,12 @@ use Rattle.stores.proofs.journal.JournalStorePageStore.install.Goals as goal
 pub returns : goal.returns
 returns g c =
     let m = g.M.Medium.model c.args.self.now.medium in
-    let m' = g.M.Medium.model c.journal-install.new.medium in
+    let m' = g.M.Medium.model c.journal_install.new.medium in
     let s = c.args.set in
     let images = c.args.images.now in
-    let o = refusal c.journal-install.result in
-    let ok = sym c.in-ok-install-allowed.ensures.answer in
+    let o = refusal c.journal_install.result in
+    let ok = sym c.in_ok-install_allowed.ensures.answer in
     record {
-      installed = journal_run m m' s c.ranges.set.fits images ok c.install-allowed.ensures.whole o c.journal-install.ensures.ran;
-      carried = carried m m' (journal_writes m.blocks s images) images o ok c.journal-install.ensures.ran;
+      installed = journal_run m m' s c.ranges.set.fits images ok c.install_allowed.ensures.whole o c.journal_install.ensures.ran;
+      carried = carried m m' (journal_writes m.blocks s images) images o ok c.journal_install.ensures.ran;
     }
