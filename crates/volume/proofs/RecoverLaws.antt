@@ -12,9 +12,9 @@ use Rattle.redo.specs.Recovery.{every}
 use Rattle.redo.proofs.TestLaws.{every-from, every-at}
 use Rattle.volume.specs.Working.{image_at, number_of, taken, replaced, written}
 use Rattle.volume.specs.LogReading.{last_number, bears, end_of}
-use Rattle.volume.specs.Volumes.{or_else}
+use Rattle.volume.specs.Volumes.{Ends, Volume, or_else}
 use Rattle.volume.specs.Performing.{outcome}
-use Rattle.volume.specs.Mounting.{first_fault, is_installed, is_missing, entry_at, Redone, redone_by, redo_uninstalled, record_redone, and_then, records_redone}
+use Rattle.volume.specs.Mounting.{first_fault, is_installed, is_missing, entry_at, Redone, redone_by, redo_uninstalled, record_redone, and_then, records_redone, records_fault, ahead_fault, unless_fault, recovered_from, mounted_halted, mounted_by}
 use Rattle.volume.proofs.WorkingLaws.{image-none}
 
 -- ---- the first fault
@@ -168,3 +168,27 @@ pub end_within : (m : Device) (n k : ℕ) → end_of m n k ≤ n + k
 unfolding end_of
 end_within m n zero = omega arith
 end_within m n (suc k) = cond_both (not (eqb n last_number) && bears m n) (end_of m (n + 1) k) n (λ x. x ≤ n + suc k) (λ e. omega (arith, end_within m (n + 1) k)) (λ e. omega arith)
+
+-- a recovery whose records are faultless: what it comes to, by the check of the numbers and the redo
+module _ (k : Meaning) (e : Ends) (f next : ℕ) (held : ℕ → List ℕ) (is : next ≡ end_of e.log f 128) (same : held ≡ taken e.store.image)
+    (faultless : None ≡ records_fault k e.log f (next - f)) where
+  abbrev come_to : ℕ → (ℕ → List ℕ) → Option Report → Volume
+  come_to n images fault =
+      mounted_by e f n (unless_fault (or_else fault (ahead_fault images n)) (records_redone k e.log f (n - f) (record { images = images; ops = [] })))
+
+  come-true : come_to next held None ≡ mounted_by e f (end_of e.log f 128) (recovered_from k e.log (taken e.store.image) f)
+  come-true =
+      ap (come_to next held) faultless
+      ∙ ap (λ n. come_to n held (records_fault k e.log f (n - f))) is
+      ∙ ap (λ images. come_to (end_of e.log f 128) images (records_fault k e.log f (end_of e.log f 128 - f))) same
+
+  pub numbers-refused : (r : Report) → Some r ≡ ahead_fault held next → mounted_halted e r ≡ mounted_by e f (end_of e.log f 128) (recovered_from k e.log (taken e.store.image) f)
+  numbers-refused r ahead =
+      ap (λ o. mounted_by e f next (unless_fault o (records_redone k e.log f (next - f) (record { images = held; ops = [] })))) ahead ∙ come-true
+
+  pub redo_refused : (r : Report) (s : Redone) → None ≡ ahead_fault held next → s ≡ record { images = held; ops = [] } → Err r ≡ records_redone k e.log f (next - f) s
+      → mounted_halted e r ≡ mounted_by e f (end_of e.log f 128) (recovered_from k e.log (taken e.store.image) f)
+  redo_refused r s ahead start refused =
+      ap (λ x. mounted_by e f next (unless_fault None x)) (refused ∙ ap (records_redone k e.log f (next - f)) start)
+      ∙ ap (λ o. mounted_by e f next (unless_fault o (records_redone k e.log f (next - f) (record { images = held; ops = [] })))) ahead
+      ∙ come-true

@@ -1,9 +1,7 @@
-use Rattle.std.proofs.Common.{◌≡◌, ℕ, leb, None, Option, sym, refl, ap, ◌∙◌, arith}
-use Rattle.std.proofs.lemmas.Bool.{le-leb, lt-leb}
+use Rattle.std.proofs.Common.{◌≡◌, ap, ◌∙◌, arith}
 use Rattle.faults.specs.declared.fault.Fault.TheVariants.{NumberAhead}
-use Rattle.faults.specs.Faults.{Report, report}
-use Rattle.media.specs.Media.{check}
-use Rattle.volume.specs.Working.{image_at, number_of}
+use Rattle.faults.specs.Faults.{report}
+use Rattle.volume.specs.Working.{image_at}
 use Rattle.volume.specs.Mounting.{first_fault}
 use Rattle.volume.proofs.RecoverLaws.{ahead, no_fault_yet, fault-none, fault-here, ahead-not, ahead-is}
 use Rattle.volume.proofs.ends.check_numbers.Goals as goal

@@ -1,4 +1,4 @@
-use Rattle.std.proofs.Common.{◌≡◌, ◌<◌, ◌&&◌, eqb, ltb, length, replicate, refl, ap, ◌∙◌, arith}
+use Rattle.std.proofs.Common.{◌&&◌, eqb, ltb, replicate, refl, ap, ◌∙◌, arith}
 use Rattle.std.proofs.lemmas.Bool.{cond-true, and_from, lt-ltb}
 use Rattle.media.specs.Media.{block_count, block_at}
 use Rattle.logblocks.specs.Blocks.{header_in}

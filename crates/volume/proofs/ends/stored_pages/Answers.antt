@@ -1,4 +1,4 @@
-use Rattle.std.proofs.Common.{◌≡◌, ℕ, ◌+◌, sym, refl, ap, ◌∙◌, arith}
+use Rattle.std.proofs.Common.{◌≡◌, ap, ◌∙◌, arith}
 use Rattle.volume.specs.Working.{image_at, replaced}
 use Rattle.volume.proofs.RecoverLaws.{taken_to, taken_none, taken_more, taken-all}
 use Rattle.volume.proofs.ends.stored_pages.Goals as goal

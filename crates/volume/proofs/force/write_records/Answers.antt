@@ -1,4 +1,4 @@
-use Rattle.std.proofs.Common.{◌≡◌, ◌<◌, length, drop, replicate, Some, None, sym, refl, ap, ◌∙◌, subst, arith}
+use Rattle.std.proofs.Common.{◌≡◌, ◌<◌, length, drop, replicate, Some, None, sym, subst, arith}
 use Rattle.faults.specs.Faults.{report}
 use Rattle.tables.specs.Waiting.{waiting}
 use Rattle.volume.specs.Forcing.{Logged}

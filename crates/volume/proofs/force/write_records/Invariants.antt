@@ -1,4 +1,4 @@
-use Rattle.std.proofs.Common.{ℕ, ◌≤◌, List, length, drop, Option}
+use Rattle.std.proofs.Common.{ℕ, List, drop, Option}
 use Rattle.faults.specs.Faults.{Report}
 use Rattle.media.specs.Media.{Device}
 use Rattle.tables.specs.Waiting.{waiting}

@@ -1,4 +1,4 @@
-use Rattle.std.proofs.Common.{◌≡◌, sym, ap, ◌∙◌}
+use Rattle.std.proofs.Common.{sym, ap, ◌∙◌}
 use Rattle.volume.specs.Recovering.{up_with}
 use Rattle.volume.proofs.MountedLaws.{halted-blank}
 use Rattle.volume.proofs.mount.settled.Goals as goal

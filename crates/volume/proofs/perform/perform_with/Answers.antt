@@ -1,4 +1,4 @@
-use Rattle.std.proofs.Common.{◌≡◌, length, sym, refl, ap, ◌∙◌, arith}
+use Rattle.std.proofs.Common.{length, refl, ap, ◌∙◌}
 use Rattle.kinds.specs.Kinds.{answer, filled}
 use Rattle.volume.specs.Working.{image_at}
 use Rattle.volume.specs.Performing.{outcome}

@@ -1,8 +1,8 @@
-use Rattle.std.proofs.Common.{◌≡◌, ℕ, ◌+◌, ◌-◌, sym, refl, ap, ◌∙◌, arith}
+use Rattle.std.proofs.Common.{◌≡◌, ◌+◌, ◌-◌, ap, ◌∙◌, arith}
 use Rattle.std.proofs.lemmas.Result.{err_from_is_err_and}
 use Rattle.faults.specs.Faults.{report}
 use Rattle.volume.specs.LogReading.{record_block, record_fault}
-use Rattle.volume.specs.Mounting.{records_fault, first_fault}
+use Rattle.volume.specs.Mounting.{records_fault}
 use Rattle.volume.proofs.RecoverLaws.{no_fault_yet, fault-none, fault-here}
 use Rattle.volume.proofs.redo.check_records.Goals as goal
 
@@ -20,7 +20,7 @@ loop-i-preserved g c =
 pub returns-in_err-check_logged : goal.returns-in_err-check_logged
 returns-in_err-check_logged g c =
     let m = g.L.Medium.model c.args.log.now in
-    let p = err_from_is_err_and c.from-residual.result c.from-residual.ensures.1 in
+    let p = err_from_is_err_and c.from_residual.result c.from_residual.ensures.1 in
     let n : c.saturating_sub-i-end.result ≡ c.args.next - c.args.first = c.saturating_sub-i-end.ensures in
     rw (p.1, p.2)
     (fault-here (λ i. record_fault g.K.Kind.meaning (c.args.first + i) (record_block m (c.args.first + i))) c.loop-i.i (c.args.next - c.args.first)

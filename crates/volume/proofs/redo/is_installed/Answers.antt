@@ -1,4 +1,4 @@
-use Rattle.std.proofs.Common.{◌≡◌, ℕ, Bool, not, ◌||◌, leb, sym, ap, ◌∙◌, arith}
+use Rattle.std.proofs.Common.{◌≡◌, not, ◌||◌, leb, sym, ap, ◌∙◌, arith}
 use Rattle.sets.specs.Sets.{has}
 use Rattle.redo.specs.Recovery.{every}
 use Rattle.volume.specs.Working.{image_at, number_of}

@@ -1,4 +1,4 @@
-use Rattle.std.proofs.Common.{◌≡◌, sym, ap, ◌∙◌}
+use Rattle.std.proofs.Common.{sym, ap, ◌∙◌}
 use Rattle.logblocks.specs.Views.{view}
 use Rattle.volume.specs.Mounting.{record_redone}
 use Rattle.volume.specs.Recovering.{redone_in}

@@ -1,4 +1,4 @@
-use Rattle.std.proofs.Common.{◌≡◌, ℕ, ◌+◌, ◌-◌, ◌≤◌, length, Ok, Err, sym, refl, ap, ◌∙◌, arith}
+use Rattle.std.proofs.Common.{◌≡◌, ◌+◌, ◌-◌, length, Ok, ap, ◌∙◌, arith}
 use Rattle.std.proofs.lemmas.Result.{err_from_is_err_and}
 use Rattle.faults.specs.Faults.{report}
 use Rattle.tables.specs.DirtyOps.{dirty}
@@ -39,7 +39,7 @@ pub returns-in_err-redo_logged : goal.returns-in_err-redo_logged
 returns-in_err-redo_logged g c =
     let k = g.K.Kind.meaning in
     let m = g.L.Medium.model c.args.log.now in
-    let p = err_from_is_err_and c.from-residual.result c.from-residual.ensures.1 in
+    let p = err_from_is_err_and c.from_residual.result c.from_residual.ensures.1 in
     rw (p.1, p.2)
     (redo-refused k m c.args.first (redone_in c.args.pages.now c.args.dirty.now) c.loop-i.i (c.args.next - c.args.first)
     (redone_in c.loop-i.pages c.loop-i.dirty) (report c.in_err-redo_logged.field-0.0)

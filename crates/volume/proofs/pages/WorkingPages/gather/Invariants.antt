@@ -1,4 +1,4 @@
-use Rattle.std.proofs.Common.{◌≡◌, ◌*◌, length, take}
+use Rattle.std.proofs.Common.{◌≡◌, ◌*◌, take}
 use Rattle.sets.specs.Sets.{has, count}
 use Rattle.volume.specs.Working.{image_at}
 use Rattle.volume.proofs.WorkingLaws.{gathered_to}

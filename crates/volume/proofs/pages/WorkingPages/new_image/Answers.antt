@@ -1,5 +1,4 @@
-use Rattle.std.proofs.Common.{◌≡◌, length, sym, ap, ◌∙◌, arith}
-use Rattle.std.proofs.lemmas.List.{length-take, length-drop}
+use Rattle.std.proofs.Common.{length, ap, ◌∙◌}
 use Rattle.sets.specs.Words.{over, bytes_of}
 use Rattle.volume.specs.Working.{image_at, stamped}
 use Rattle.volume.proofs.WorkingLaws.{stamped-is, image-length}

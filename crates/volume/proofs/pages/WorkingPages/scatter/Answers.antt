@@ -1,5 +1,5 @@
-use Rattle.std.proofs.Common.{◌≡◌, ◌+◌, ◌*◌, ◌≤◌, cond, sym, refl, ap, ◌∙◌, arith}
-use Rattle.sets.specs.Sets.{has, count, size}
+use Rattle.std.proofs.Common.{◌≡◌, ◌+◌, ◌*◌, cond, ap, ◌∙◌, arith}
+use Rattle.sets.specs.Sets.{has, size}
 use Rattle.sets.specs.Words.{part}
 use Rattle.sets.proofs.SetLaws.{count_none}
 use Rattle.volume.specs.Working.{image_at, replaced, stamped}

@@ -1,4 +1,3 @@
-use Rattle.std.proofs.Common.{◌≡◌, sym, refl, ap, ◌∙◌, subst}
 use Rattle.faults.specs.Faults.{refusal}
 use Rattle.volume.specs.Models.{up_model}
 use Rattle.volume.proofs.FlushLaws.{flush-well}

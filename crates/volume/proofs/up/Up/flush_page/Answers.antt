@@ -1,4 +1,4 @@
-use Rattle.std.proofs.Common.{◌≡◌, Some, None, sym, refl, ap, ◌∙◌, subst}
+use Rattle.std.proofs.Common.{Some, None, subst}
 use Rattle.faults.specs.Faults.{report}
 use Rattle.volume.specs.Models.{up_model}
 use Rattle.volume.specs.Volumes.{Told}

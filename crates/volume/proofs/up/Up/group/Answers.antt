@@ -1,5 +1,4 @@
-use Rattle.std.proofs.Common.{◌≡◌, cond, sym, refl, ap, ◌∙◌, subst, arith}
-use Rattle.tables.specs.DirtyOps.{dirty}
+use Rattle.std.proofs.Common.{subst}
 use Rattle.volume.specs.Models.{up_model}
 use Rattle.volume.specs.Volumes.{Told}
 use Rattle.volume.proofs.RunLaws.{group-passes}
