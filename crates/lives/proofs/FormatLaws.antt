@@ -23,6 +23,7 @@ use Rattle.kinds.specs.Kinds.{Meaning}
 use Rattle.logblocks.specs.Blocks.{header_of}
 use Rattle.redo.specs.Histories.{writes, image}
 use Rattle.redo.proofs.HistoryLaws.{image-still}
+use Rattle.faults.specs.declared.fault.Fault.{Fault}
 use Rattle.volume.specs.declared.status.Status.{Status}
 use Rattle.volume.specs.declared.status.Status.TheVariants.{Well, Halted}
 use Rattle.volume.specs.Working.{number_of, taken}
