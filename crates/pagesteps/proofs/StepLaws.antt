@@ -192,7 +192,7 @@ swap_is a b la lb ne = record {
     same q = both-has a b q la lb
 
 pub page-steps : PageKindSteps
-page-steps (fill p b) l = fill_is p b l
+page-steps (fill p b) l = fill_is p b (omega arith)
 page-steps (copy s t) ok = copy_is s t ok.0 ok.1 ok.2
 page-steps (swap a b) ok = swap_is a b ok.0 ok.1 ok.2
 

@@ -1,6 +1,6 @@
 -- The steps of the table of situations are operations of the page kind.
 use Rattle.std.specs.Prelude.{◌≡◌, ℕ, ◌*◌, ◌<◌, true, List, [], ◌∷◌, length, Some, Ok, ◌≢◌}
-use Rattle.std.specs.List.{flat_map, AllByRecursion as All}
+use Rattle.std.specs.List.{flat_map, AllByRecursion}
 use Rattle.sets.specs.Sets.{has, count, pages}
 use Rattle.sets.specs.Words.{part}
 use Rattle.kinds.specs.Actions.{page_meaning}
@@ -49,4 +49,4 @@ PageKindSteps = (st : Step) → Allowed st → IsStep st
 
 -- every step of the table is allowed
 abbrev pub TableAllowed : Type 0
-TableAllowed = All (λ row. All Allowed row.steps) table
+TableAllowed = AllByRecursion (λ row. AllByRecursion Allowed row.steps) table

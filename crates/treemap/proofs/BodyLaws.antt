@@ -1,6 +1,6 @@
 -- Bodies and the steps that they say.
 use Rattle.std.proofs.Common.{◌≡◌, ℕ, ◌+◌, ◌*◌, ◌^◌, ◌<◌, true, ◌&&◌, eqb, ltb, leb, List, [], ◌∷◌, length, Some, None, Err, sym, refl, ap, ◌∙◌, ap₂, mul-suc, arith}
-use Rattle.std.specs.List.{flat_map, AllByRecursion as All}
+use Rattle.std.specs.List.{flat_map, AllByRecursion}
 use Rattle.std.proofs.ByRecursion.{All-weaker}
 use Rattle.std.proofs.lemmas.List.{length-append}
 use Rattle.std.proofs.lemmas.Bool.{and_parts, and_from, cond-true, eq-eqb, ltb-true}
@@ -29,7 +29,7 @@ bodies-say Grow h = refl
 
 -- ---- the kind
 
-joined_length : (k : ℕ) (s : Pages) (ps : List ℕ) → All (λ p. length (s p) ≡ k) ps → length (flat_map s ps) ≡ k * length ps
+joined_length : (k : ℕ) (s : Pages) (ps : List ℕ) → AllByRecursion (λ p. length (s p) ≡ k) ps → length (flat_map s ps) ≡ k * length ps
 joined_length k s [] a = omega arith
 joined_length k s (p ∷ ps) a = length-append (s p) (flat_map s ps) ∙ ap₂ ◌+◌ a.0 (joined_length k s ps a.1) ∙ omega (arith, mul-suc k (length ps))
 

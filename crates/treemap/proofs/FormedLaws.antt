@@ -1,6 +1,6 @@
 -- Plans on any pages: a body can say each step, and only the last one counts for the map.
 use Rattle.std.proofs.Common.{◌≡◌, ℕ, zero, suc, ◌+◌, ◌^◌, ◌<◌, ◌≤◌, true, false, cond, not, ◌&&◌, eqb, ltb, leb, ◌⊎◌, List, [], ◌∷◌, ◌++◌, map, length, take, Some, sym, refl, ap, ◌∙◌, subst, inl, inr, arith}
-use Rattle.std.specs.List.{AllByRecursion as All}
+use Rattle.std.specs.List.{AllByRecursion}
 use Rattle.std.proofs.ByRecursion.{All-append}
 use Rattle.std.proofs.lemmas.Bool.{cases_Bool, and_from, ne_eqb, le-leb, lt-ltb, not_from_false}
 use Rattle.tree.specs.declared.step.Step.{Step}
@@ -33,7 +33,7 @@ pub plans_formed_lem : (o : KeyOrdering) → TotalOrder o → PlansFormed o
 plans_formed_lem o t s k v lk lv fine = go (cases_Bool (splits o s k)) (cases_Bool (root_form o (s 0)))
   where
     Formed : List Step → Type 0
-    Formed sts = All (λ st. formed st ≡ true) sts
+    Formed sts = AllByRecursion (λ st. formed st ≡ true) sts
 
     into : (u : Pages) → Formed (Insert (leaf_page o u k) k v ∷ [])
     into u = (insert-formed (leaf_page o u k) k v (leaf-within o t u k) lk lv, tt)

@@ -1,6 +1,6 @@
 -- Rising entries in two halves, and how many entries a put makes.
 use Rattle.std.proofs.Common.{◌≡◌, ℕ, zero, suc, ◌^◌, ◌<◌, ◌≤◌, true, false, cond, not, ◌&&◌, eqb, List, [], ◌∷◌, ◌++◌, length, take, drop, Some, None, sym, refl, ap, ◌∙◌, inl, inr, arith}
-use Rattle.std.specs.List.{AllByRecursion as All}
+use Rattle.std.specs.List.{AllByRecursion}
 use Rattle.std.proofs.lemmas.List.{take-append-drop}
 use Rattle.std.proofs.lemmas.Bool.{cases_Bool, eq-eqb, ne_eqb, both_ways, and_parts, and_from, not_from_false}
 use Rattle.tree.specs.Orders.{KeyOrdering, TotalOrder}
@@ -10,7 +10,7 @@ use Rattle.treemap.proofs.RouteLaws.{put-by, find-same, find-other, find-key, no
 
 -- ---- two parts of a list
 
-find-back : (k : ℕ) (xs ys : List Entry) → All (λ e. e.0 ≡ k → ⊥) xs → find k (xs ++ ys) ≡ find k ys
+find-back : (k : ℕ) (xs ys : List Entry) → AllByRecursion (λ e. e.0 ≡ k → ⊥) xs → find k (xs ++ ys) ≡ find k ys
 find-back k [] ys a = refl
 find-back k (x ∷ xs) ys a = find-other k x (xs ++ ys) (ne_eqb x.0 k a.0) ∙ find-back k xs ys a.1
 
@@ -57,7 +57,7 @@ module _ (o : KeyOrdering) (t : TotalOrder o) where
       let p = and_parts (o.less x e.0) (above o e.0 (xs ++ ((m, w) ∷ rest))) h in
       t.onward x e.0 m p.0 (above-reach e.0 m w xs rest p.1)
 
-  all-below : (m w : ℕ) (xs rest : List Entry) → rising o (xs ++ ((m, w) ∷ rest)) ≡ true → All (λ e. o.less e.0 m ≡ true) xs
+  all-below : (m w : ℕ) (xs rest : List Entry) → rising o (xs ++ ((m, w) ∷ rest)) ≡ true → AllByRecursion (λ e. o.less e.0 m ≡ true) xs
   all-below m w [] rest h = tt
   all-below m w (e ∷ xs) rest h = (above-reach e.0 m w xs rest h, all-below m w xs rest (rising-tail o t e.0 (xs ++ ((m, w) ∷ rest)) h))
 
@@ -86,10 +86,10 @@ module _ (o : KeyOrdering) (t : TotalOrder o) where
       up : above o m rest ≡ true
       up = rising-back xs ((m, w) ∷ rest) rise
 
-      below : All (λ e. o.less e.0 m ≡ true) xs
+      below : AllByRecursion (λ e. o.less e.0 m ≡ true) xs
       below = all-below m w xs rest rise
 
-      apart_from : (k : ℕ) → o.less k m ≡ false → (ys : List Entry) → All (λ e. o.less e.0 m ≡ true) ys → All (λ e. e.0 ≡ k → ⊥) ys
+      apart_from : (k : ℕ) → o.less k m ≡ false → (ys : List Entry) → AllByRecursion (λ e. o.less e.0 m ≡ true) ys → AllByRecursion (λ e. e.0 ≡ k → ⊥) ys
       apart_from k n [] a = tt
       apart_from k n (y ∷ ys) a = ((λ q. both_ways (o.less k m) n (ap (λ x. o.less x m) (sym q) ∙ a.0)), apart_from k n ys a.1)
 

@@ -1,7 +1,7 @@
 -- Where a root's entries lead a key.
 use Rattle.std.proofs.Common.{◌≡◌, ℕ, ◌<◌, ◌≤◌, Bool, true, false, cond, not, ◌&&◌, ◌||◌, eqb, leb, ◌⊎◌, List, [], ◌∷◌, Some, None, Option, sym, refl, ap, ◌∙◌, subst, inl, inr, arith}
 use mathlib.Core.Path.{fun_ext}
-use Rattle.std.specs.List.{AllByRecursion as All}
+use Rattle.std.specs.List.{AllByRecursion}
 use Rattle.std.proofs.lemmas.Bool.{cases_Bool, cond-true, cond-false, cond_both, eq-eqb, ne_eqb, eqb-true, eqb-false, both_ways, and_parts, and_from, not-true, not_from_false, or_from, or_left, or_right, leb-true, le-leb}
 use Rattle.tree.specs.Orders.{KeyOrdering, TotalOrder}
 use Rattle.tree.specs.Nodes.{Entry, find, absent, put, above, rising, fresh}
@@ -47,7 +47,7 @@ present-some k (e ∷ es) h = go (cases_Bool (eqb e.0 k)) (present-some k es)
     go (inr other) ih = let r = ih (sym (ap (λ b. not b && absent k es) other) ∙ h) in (r.0, find-other k e es other ∙ r.1)
 
 -- what holds of all values holds of a value that is found, and what holds of all keys holds of a key that is found
-pub find-value : (P : ℕ → Type 0) (k r : ℕ) (es : List Entry) → All (λ e. P e.1) es → find k es ≡ Some r → P r
+pub find-value : (P : ℕ → Type 0) (k r : ℕ) (es : List Entry) → AllByRecursion (λ e. P e.1) es → find k es ≡ Some r → P r
 find-value P k r [] a h = none-some r h
 find-value P k r (e ∷ es) a h = go (cases_Bool (eqb e.0 k)) (find-value P k r es a.1)
   where
@@ -55,7 +55,7 @@ find-value P k r (e ∷ es) a h = go (cases_Bool (eqb e.0 k)) (find-value P k r 
     go (inl same) ih = subst P (some_same e.1 r (sym (find-same k e es same) ∙ h)) a.0
     go (inr other) ih = ih (sym (find-other k e es other) ∙ h)
 
-pub find-key : (P : ℕ → Type 0) (k r : ℕ) (es : List Entry) → All (λ e. P e.0) es → find k es ≡ Some r → P k
+pub find-key : (P : ℕ → Type 0) (k r : ℕ) (es : List Entry) → AllByRecursion (λ e. P e.0) es → find k es ≡ Some r → P k
 find-key P k r [] a h = none-some r h
 find-key P k r (e ∷ es) a h = go (cases_Bool (eqb e.0 k)) (find-key P k r es a.1)
   where
@@ -68,9 +68,9 @@ find-key P k r (e ∷ es) a h = go (cases_Bool (eqb e.0 k)) (find-key P k r es a
 -- the values differ from one another and from d
 abbrev pub Apart : ℕ → List Entry → Type 0
 Apart d [] = Unit {0}
-Apart d (e ∷ es) = All (λ x. x.1 ≡ d → ⊥) (e ∷ es) × Apart e.1 es
+Apart d (e ∷ es) = AllByRecursion (λ x. x.1 ≡ d → ⊥) (e ∷ es) × Apart e.1 es
 
-pub apart-all : (d : ℕ) (es : List Entry) → Apart d es → All (λ x. x.1 ≡ d → ⊥) es
+pub apart-all : (d : ℕ) (es : List Entry) → Apart d es → AllByRecursion (λ x. x.1 ≡ d → ⊥) es
 apart-all d [] a = tt
 apart-all d (e ∷ es) a = a.0
 
@@ -100,12 +100,12 @@ module _ (o : KeyOrdering) (t : TotalOrder o) where
   rising-tail x (e ∷ es) a = (and_parts (o.less x e.0) (above o e.0 es) a).1
 
   -- what holds of the start and of all values holds where a key leads
-  pub last-all : (P : ℕ → Type 0) (k d : ℕ) (es : List Entry) → P d → All (λ e. P e.1) es → P (last_up_to o k d es)
+  pub last-all : (P : ℕ → Type 0) (k d : ℕ) (es : List Entry) → P d → AllByRecursion (λ e. P e.1) es → P (last_up_to o k d es)
   last-all P k d [] h a = h
   last-all P k d (e ∷ es) h a = last-all P k (cond (o.less k e.0) d e.1) es (cond_both (o.less k e.0) d e.1 P (λ _. h) (λ _. a.0)) a.1
 
   -- either no entry counts, or the start does not matter
-  pub last-cases : (P : ℕ → Type 0) (k : ℕ) (es : List Entry) → All (λ e. P e.1) es → ((x : ℕ) → last_up_to o k x es ≡ x) ⊎ ((v : ℕ) × P v × ((x : ℕ) → last_up_to o k x es ≡ v))
+  pub last-cases : (P : ℕ → Type 0) (k : ℕ) (es : List Entry) → AllByRecursion (λ e. P e.1) es → ((x : ℕ) → last_up_to o k x es ≡ x) ⊎ ((v : ℕ) × P v × ((x : ℕ) → last_up_to o k x es ≡ v))
   last-cases P k [] a = inl (λ x. refl)
   last-cases P k (e ∷ es) a = go (o.less k e.0) (last-cases P k es a.1)
     where
@@ -204,17 +204,17 @@ fresh-from n seen e es low high new rest =
     and_from (leb 1 e.1 && (leb e.1 n && not (seen e.1))) (fresh n (λ v. seen v || eqb v e.1) es)
     (and_from (leb 1 e.1) (leb e.1 n && not (seen e.1)) (le-leb 1 e.1 low) (and_from (leb e.1 n) (not (seen e.1)) (le-leb e.1 n high) (not_from_false (seen e.1) new))) rest
 
-pub fresh-range : (n : ℕ) (seen : ℕ → Bool) (es : List Entry) → fresh n seen es ≡ true → All (λ e. (1 ≤ e.1) × (e.1 ≤ n)) es
+pub fresh-range : (n : ℕ) (seen : ℕ → Bool) (es : List Entry) → fresh n seen es ≡ true → AllByRecursion (λ e. (1 ≤ e.1) × (e.1 ≤ n)) es
 fresh-range n seen [] h = tt
 fresh-range n seen (e ∷ es) h = let p = fresh-parts n seen e es h in ((p.0.0, p.0.1), fresh-range n (λ v. seen v || eqb v e.1) es p.1)
 
-fresh-not : (n d : ℕ) (seen : ℕ → Bool) (es : List Entry) → fresh n seen es ≡ true → seen d ≡ true → All (λ e. e.1 ≡ d → ⊥) es
+fresh-not : (n d : ℕ) (seen : ℕ → Bool) (es : List Entry) → fresh n seen es ≡ true → seen d ≡ true → AllByRecursion (λ e. e.1 ≡ d → ⊥) es
 fresh-not n d seen [] h s = tt
 fresh-not n d seen (e ∷ es) h s =
     let p = fresh-parts n seen e es h in
     ((λ q. both_ways (seen d) (ap seen (sym q) ∙ p.0.2) s), fresh-not n d (λ v. seen v || eqb v e.1) es p.1 (or_left (seen d) (eqb d e.1) s))
 
-pub fresh-apart : (n d : ℕ) (seen : ℕ → Bool) (es : List Entry) → fresh n seen es ≡ true → All (λ e. e.1 ≡ d → ⊥) es → Apart d es
+pub fresh-apart : (n d : ℕ) (seen : ℕ → Bool) (es : List Entry) → fresh n seen es ≡ true → AllByRecursion (λ e. e.1 ≡ d → ⊥) es → Apart d es
 fresh-apart n d seen [] h a = tt
 fresh-apart n d seen (e ∷ es) h a =
     let p = fresh-parts n seen e es h in

@@ -1,6 +1,6 @@
 -- The tree is the map of the puts that are left.
 use Rattle.std.specs.Prelude.{◌≡◌, ℕ, ◌^◌, ◌<◌, true, cond, List, [], ◌∷◌, map, length, take, Some, None, Ok, Option, ◌==◌, ◌≢◌}
-use Rattle.std.specs.List.{AllByRecursion as All}
+use Rattle.std.specs.List.{AllByRecursion}
 use Rattle.kinds.specs.Kinds.{Bytes}
 use Rattle.tree.specs.declared.step.Step.{Step}
 use Rattle.tree.specs.Orders.{KeyOrdering}
@@ -52,7 +52,7 @@ PutsAccepted o = (s : Pages) → Paged s → (k v : ℕ) → k < 2 ^ 32 → v < 
 
 -- on any pages, each step of a put that is not refused can be said by a body
 abbrev pub PlansFormed : KeyOrdering → Type 0
-PlansFormed o = (s : Pages) (k v : ℕ) → k < 2 ^ 32 → v < 2 ^ 32 → put_fault o s k ≡ None → All (λ st. formed st ≡ true) (plan o s k v)
+PlansFormed o = (s : Pages) (k v : ℕ) → k < 2 ^ 32 → v < 2 ^ 32 → put_fault o s k ≡ None → AllByRecursion (λ st. formed st ≡ true) (plan o s k v)
 
 -- the body of a step says it
 abbrev pub BodiesSay : Type 0

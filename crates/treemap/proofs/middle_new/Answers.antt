@@ -3,4 +3,4 @@ use Rattle.treemap.proofs.LeftLaws.{middle-new}
 use Rattle.treemap.proofs.middle_new.Goals as goal
 
 pub returns : goal.returns
-returns g c = middle-new g.O.KeyOrder.ordering g.met.O.KeyOrder.ordered (subst (λ x. x < 2 ^ 32) c.least-key.ensures c.least-key.type-inv)
+returns g c = middle-new g.O.KeyOrder.ordering g.met.O.KeyOrder.ordered (subst (λ x. x < 2 ^ 32) c.least_key.ensures c.least_key.type_inv)
