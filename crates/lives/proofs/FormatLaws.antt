@@ -5,7 +5,6 @@ use Rattle.std.proofs.lemmas.List.{length-set, get_or-set_same, get_or-set_other
 use Rattle.std.proofs.ByRecursion.{All-append}
 use Rattle.std.proofs.lemmas.Bool.{both_ways, eqb-false, leb-true, not-false, or_parts, cond-true, cases_eq, ltb-true}
 use Rattle.sets.specs.Sets.{has, rising}
-use Rattle.sets.specs.Words.{number}
 use Rattle.sets.proofs.SetLaws.{has-none}
 use Rattle.faults.specs.declared.fault.Fault.TheVariants.{BadHeader, TooShort}
 use Rattle.faults.specs.Faults.{Report, report}
@@ -21,7 +20,7 @@ use Rattle.stores.specs.Stores.State.{Live, Dead, Short}
 use Rattle.stores.specs.Stores.Ending.{Passes, FailsOld, FailsNew}
 use Rattle.kinds.specs.Kinds.{Meaning}
 use Rattle.logblocks.specs.Blocks.{header_of}
-use Rattle.redo.specs.Histories.{writes, image}
+use Rattle.redo.specs.Histories.{image}
 use Rattle.redo.proofs.HistoryLaws.{image-still}
 use Rattle.faults.specs.declared.fault.Fault.{Fault}
 use Rattle.volume.specs.declared.status.Status.{Status}

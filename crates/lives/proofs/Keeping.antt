@@ -1,5 +1,5 @@
 -- What a book and a volume keep between them through every call.
-use Rattle.std.proofs.Common.{◌≡◌, ℕ, suc, ◌+◌, ◌<◌, ◌≤◌, Bool, true, false, List, [], ◌∷◌, length, get_or, None, Ok, Err, Result}
+use Rattle.std.proofs.Common.{◌≡◌, ℕ, suc, ◌+◌, ◌<◌, ◌≤◌, Bool, true, false, List, [], ◌∷◌, length, get_or, Ok, Err, Result}
 use Rattle.media.specs.Media.{Device, block_count, block_at}
 use Rattle.stores.specs.Stores.{is_short}
 use Rattle.stores.specs.Stores.State.{Live}

@@ -11,7 +11,7 @@ use Rattle.stores.specs.Stores.{State, is_short, powered as revived, revived as 
 use Rattle.stores.specs.Stores.State.{Live, Dead, Short}
 use Rattle.kinds.specs.Kinds.{Meaning, Lawful}
 use Rattle.logblocks.specs.Blocks.{Entry, block_of, header_in}
-use Rattle.redo.specs.Histories.{Page, History, reads, writes, after, Ran}
+use Rattle.redo.specs.Histories.{Page, History, after, Ran}
 use Rattle.redo.specs.Prefixes.{uninstalled, Installed}
 use Rattle.redo.specs.Installation.{trimmed}
 use Rattle.redo.specs.Theorems.{AfterLoss, AfterTrim}

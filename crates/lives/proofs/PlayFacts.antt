@@ -1,20 +1,19 @@
 -- Calls played one after another are a life.
-use Rattle.std.proofs.Common.{◌≡◌, ℕ, zero, suc, ◌+◌, ◌<◌, ◌≤◌, Bool, true, false, List, [], ◌∷◌, ◌++◌, length, get_or, take, drop, set, None, Ok, Err, Result, sym, refl, ap, ◌∙◌, subst, ap₂, add-one, take-suc, take-suc-set}
+use Rattle.std.proofs.Common.{◌≡◌, ℕ, zero, suc, ◌+◌, ◌<◌, ◌≤◌, true, false, List, [], ◌∷◌, ◌++◌, length, get_or, take, drop, set, None, Result, sym, refl, ap, ◌∙◌, subst, add-one, take-suc, take-suc-set}
 use Rattle.faults.specs.declared.fault.Fault.{Fault}
 use Rattle.media.specs.declared.fate.Fate.{Fate}
 use Rattle.kinds.specs.Kinds.{Meaning, Lawful}
-use Rattle.volume.specs.Volumes.{Ends, Volume}
+use Rattle.volume.specs.Volumes.{Ends}
 use Rattle.volume.specs.LogReading.{last_number}
 use Rattle.volume.specs.Formatting.{Formatted}
 use Rattle.lives.specs.declared.call.Call.{Call}
 use Rattle.lives.specs.declared.call.Call.TheVariants.{Run, Force, Flush, Trim, Stop, Mount}
 use Rattle.lives.specs.declared.answer.Answer.{Answer}
-use Rattle.lives.specs.declared.answer.Answer.TheVariants.{OutOfTurn, Done, Refused}
+use Rattle.lives.specs.declared.answer.Answer.TheVariants.{OutOfTurn}
 use Rattle.lives.specs.Books.{Event}
 use Rattle.lives.specs.Lives.{State, Steps, Life}
-use Rattle.lives.specs.Lives.State.{down, up}
+use Rattle.lives.specs.Lives.State.{down}
 use Rattle.lives.specs.Lives.Life.{formatted, then}
-use Rattle.lives.specs.Laws.{Law}
 use Rattle.lives.specs.Replays.{takes, down_takes, event_of, reported, written_as, Plays, Replayed, Replays, Everywhere, Lived}
 use Rattle.lives.specs.Replays.Plays.{out_of_turn, in_turn}
 use Rattle.lives.specs.Replays.Replayed.{nothing, more}

@@ -1,8 +1,8 @@
 -- What the calls' contracts say, as calls of a life.
-use Rattle.std.proofs.Common.{◌≡◌, ℕ, ◌-◌, List, length, IfOk, Some, None, Ok, Err, Option, Result, sym, refl, ap, ◌∙◌, subst, ap₂}
+use Rattle.std.proofs.Common.{◌≡◌, ℕ, ◌-◌, List, length, IfOk, Ok, Err, Result, sym, refl, ap, ◌∙◌, subst, ap₂}
 use Rattle.sets.specs.Sets.{size}
 use Rattle.faults.specs.declared.fault.Fault.{Fault}
-use Rattle.faults.specs.Faults.{Report, report, refusal}
+use Rattle.faults.specs.Faults.{refusal}
 use Rattle.media.specs.declared.fate.Fate.{Fate}
 use Rattle.media.specs.Media.{Device}
 use Rattle.stores.specs.Stores.{Store}
@@ -13,7 +13,7 @@ use Rattle.volume.specs.Forcing.{Forced, Trimmed}
 use Rattle.volume.specs.Flushing.{Flushed}
 use Rattle.volume.specs.Mounting.{mounted}
 use Rattle.lives.specs.Books.Event.{run, force, flush, trim, stop, mount}
-use Rattle.lives.specs.Lives.{State, answered, ends_of, fate_by, Steps}
+use Rattle.lives.specs.Lives.{answered, ends_of, fate_by, Steps}
 use Rattle.lives.specs.Lives.State.{down, up}
 use Rattle.lives.specs.Lives.Steps.{runs, forces, flushes, trims, stops, mounts}
 use Rattle.lives.specs.Replays.{reported}

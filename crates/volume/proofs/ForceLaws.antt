@@ -1,5 +1,5 @@
 -- Records written one after another.
-use Rattle.std.proofs.Common.{◌≡◌, ℕ, zero, suc, ◌+◌, ◌<◌, ◌≤◌, List, [], ◌∷◌, length, get_or, drop, Some, None, Option, sym, refl, ap, ◌∙◌, subst, add-one, arith, drop-cons}
+use Rattle.std.proofs.Common.{◌≡◌, ℕ, ◌+◌, ◌<◌, List, [], ◌∷◌, length, get_or, drop, Some, None, Option, sym, refl, ap, ◌∙◌, subst, add-one, drop-cons}
 use Rattle.faults.specs.Faults.{Report}
 use Rattle.media.specs.Media.{Device, Wrote}
 use Rattle.volume.specs.Working.{number_of}

@@ -10,7 +10,7 @@ use Rattle.faults.specs.Faults.{Report, report}
 use Rattle.media.specs.Media.{Device, block_at, check}
 use Rattle.kinds.specs.Kinds.{Meaning, Lawful}
 use Rattle.logblocks.specs.Blocks.{header_in}
-use Rattle.redo.specs.Histories.{Page, History, writes, image, run, WellFormed, Ran}
+use Rattle.redo.specs.Histories.{Page, History, run, WellFormed, Ran}
 use Rattle.redo.specs.Prefixes.{uninstalled, Recoverable}
 use Rattle.redo.specs.Recovery.{missing, redo}
 use Rattle.redo.proofs.HistoryLaws.{run-unwritten, image-below}

@@ -1,9 +1,9 @@
 -- What a kind's reply comes to where the buffers have the right lengths.
-use Rattle.std.proofs.Common.{◌≡◌, ℕ, ◌+◌, ◌-◌, ◌*◌, ◌<◌, ◌≤◌, Bool, true, false, cond, ◌&&◌, eqb, List, length, take, Ok, Err, Result, sym, refl, ap, ◌∙◌, subst, ap₂, arith}
+use Rattle.std.proofs.Common.{◌≡◌, ℕ, ◌-◌, ◌*◌, ◌≤◌, cond, ◌&&◌, List, length, take, Ok, Err, Result, refl, ap, ◌∙◌, ap₂, arith}
 use Rattle.std.proofs.lemmas.List.{length-take}
 use Rattle.std.proofs.lemmas.Bool.{eq-eqb}
 use Rattle.sets.specs.Sets.{size}
-use Rattle.kinds.specs.Kinds.{Meaning, Lawful, Scoped, within, reply, answer, filled}
+use Rattle.kinds.specs.Kinds.{Meaning, Lawful, within, reply, answer, filled}
 use Rattle.volume.specs.Working.{gathered, written}
 use Rattle.volume.specs.Performing.{outcome, performed}
 

@@ -1,8 +1,8 @@
 -- The checks of a run, put together.
-use Rattle.std.proofs.Common.{◌≡◌, ℕ, ◌<◌, ◌≤◌, ltb, leb, List, length, Some, None, Ok, Err, Option, sym, refl, ap, ◌∙◌, arith}
+use Rattle.std.proofs.Common.{◌≡◌, ℕ, ◌<◌, ◌≤◌, ltb, leb, List, length, None, Ok, sym, ap, ◌∙◌}
 use Rattle.std.proofs.lemmas.Bool.{le-ltb, lt-leb}
 use Rattle.faults.specs.declared.fault.Fault.TheVariants.{NoSuchPage, WrongLength}
-use Rattle.faults.specs.Faults.{Report, report}
+use Rattle.faults.specs.Faults.{report}
 use Rattle.media.specs.Media.{check}
 use Rattle.kinds.specs.Kinds.{Meaning}
 use Rattle.volume.specs.declared.status.Status.TheVariants.{Well}

@@ -1,5 +1,5 @@
 -- A trim whose write of block 0 is refused, and the row of all images.
-use Rattle.std.proofs.Common.{◌≡◌, ℕ, zero, suc, ◌+◌, ◌*◌, ◌≤◌, true, cond, eqb, List, [], ◌∷◌, ◌++◌, Some, None, Option, sym, refl, ap, ◌∙◌, subst, arith, MatchOption}
+use Rattle.std.proofs.Common.{◌≡◌, ℕ, cond, eqb, List, Some, None, Option, sym, ap, ◌∙◌, subst, MatchOption}
 use Rattle.std.proofs.lemmas.Bool.{ne_eqb}
 use Rattle.faults.specs.Faults.{Report}
 use Rattle.media.specs.Media.{Device, Wrote}
@@ -7,7 +7,7 @@ use Rattle.logblocks.specs.Blocks.{header_of}
 use Rattle.volume.specs.declared.status.Status.TheVariants.{Well}
 use Rattle.volume.specs.Statuses.{halted_by}
 use Rattle.volume.specs.Volumes.{Volume, noted}
-use Rattle.volume.specs.Forcing.{ByStatus, Trimmed, TrimmedWell, trimmed_to, with_header}
+use Rattle.volume.specs.Forcing.{ByStatus, Trimmed, TrimmedWell, trimmed_to}
 
 -- a call on a well volume
 pub well-call : (v v' : Volume) (o : Option Report) (P : Type 0) → v.status ≡ Well → P → ByStatus v o v' P

@@ -1,7 +1,7 @@
 -- The working pages: one image replaced, contents gathered and written.
-use Rattle.std.proofs.Common.{◌≡◌, ℕ, zero, suc, ◌+◌, ◌-◌, ◌*◌, ◌^◌, ◌<◌, ◌≤◌, Bool, true, false, cond, eqb, ltb, List, [], ◌∷◌, ◌++◌, length, get_or, take, drop, set, sym, refl, ap, ◌∙◌, subst, ap₂, inl, inr, arith}
+use Rattle.std.proofs.Common.{◌≡◌, ℕ, ◌+◌, ◌-◌, ◌*◌, ◌^◌, ◌<◌, ◌≤◌, Bool, true, false, cond, eqb, ltb, List, [], ◌∷◌, ◌++◌, length, get_or, take, drop, set, sym, refl, ap, ◌∙◌, ap₂, inl, inr, arith}
 use borrow.Rule.Slice.PartMut.{put_mid}
-use Rattle.std.proofs.lemmas.List.{length-take, length-drop, length-append, drop_all, drop-drop, drop-take, take-take, take_all, take_at, drop_at, append-nil, flat_map_more, get_or-set_same, get_or-set_other}
+use Rattle.std.proofs.lemmas.List.{length-take, length-drop, drop_all, drop-drop, drop-take, take-take, take_all, take_at, drop_at, append-nil, flat_map_more, get_or-set_same, get_or-set_other}
 use Rattle.std.proofs.lemmas.Bool.{cases_lt, cases_eq, eq-eqb, ne_eqb, lt-ltb, le-ltb, cond-true, cond-false}
 use Rattle.std.proofs.lemmas.Bool.Decides.{nat_tests}
 use Rattle.media.proofs.ChunkLaws.{length-chunks, get_d_chunks, chunks-put, length-put}
@@ -10,9 +10,9 @@ use Rattle.std.specs.List.{flat_map}
 use Rattle.std.proofs.lemmas.Slice.{take-put_mid}
 use Rattle.sets.specs.Sets.{has, count, rising, size}
 use Rattle.sets.specs.Words.{part, over, bytes_of}
-use Rattle.sets.proofs.SetLaws.{rising_none, rising-more, count_none, count-more, count-mono, has_above}
+use Rattle.sets.proofs.SetLaws.{rising_none, rising-more, count-more, count-mono, has_above}
 use Rattle.sets.proofs.WordLaws.{bytes-length}
-use Rattle.volume.specs.Working.{image_at, contents_in, gathered, share_of, stamped, written, replaced}
+use Rattle.volume.specs.Working.{image_at, contents_in, share_of, stamped, written, replaced}
 
 -- what is no page has no image
 pub image-none : (images : List ℕ) (q : ℕ) → length images ≡ 16384 → 64 ≤ q → image_at images q ≡ []

@@ -1,5 +1,5 @@
 -- Flush: a page's group is installed.
-use Rattle.std.specs.Prelude.{◌≡◌, ℕ, ◌-◌, Bool, cond, not, List, length, Some, None, Option, MatchOption, ◌==◌, nat_le}
+use Rattle.std.specs.Prelude.{◌≡◌, ℕ, ◌-◌, cond, not, List, length, Some, None, Option, MatchOption, ◌==◌, nat_le}
 use Rattle.sets.specs.Sets.{lowest}
 use Rattle.faults.specs.declared.fault.Fault.TheVariants.{NoSuchPage, PageClean, GroupBefore, RecordWaiting}
 use Rattle.faults.specs.Faults.{Report, report}

@@ -1,5 +1,5 @@
 -- Force and trim: what they write to the log.
-use Rattle.std.specs.Prelude.{◌≡◌, ℕ, ◌-◌, cond, not, List, [], ◌∷◌, Some, None, Option, MatchOption, ◌==◌}
+use Rattle.std.specs.Prelude.{◌≡◌, ℕ, cond, List, [], ◌∷◌, Some, None, Option, MatchOption, ◌==◌}
 use Rattle.faults.specs.Faults.{Report}
 use Rattle.media.specs.declared.fate.Fate.{Fate}
 use Rattle.media.specs.Media.{Device, WroteBy, Wrote}

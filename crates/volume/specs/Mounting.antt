@@ -1,11 +1,10 @@
 -- Mount: the volume that a log and a page store give.
-use Rattle.std.specs.Prelude.{◌≡◌, ℕ, zero, suc, ◌+◌, ◌-◌, Bool, true, false, cond, not, ◌&&◌, ◌||◌, List, [], ◌∷◌, ◌++◌, length, replicate, Some, None, Ok, Err, Option, Result, nat_le, nat_lt}
+use Rattle.std.specs.Prelude.{ℕ, zero, suc, ◌+◌, ◌-◌, Bool, cond, not, ◌||◌, List, [], ◌∷◌, ◌++◌, replicate, Some, None, Ok, Err, Option, Result, nat_le, nat_lt}
 use Rattle.sets.specs.Sets.{has}
 use Rattle.faults.specs.declared.fault.Fault.TheVariants.{BadHeader, TooShort, NumberAhead, PartlyInstalled, RedoRefused}
 use Rattle.faults.specs.Faults.{Report, report}
 use Rattle.media.specs.Media.{Device, block_at, check, powered}
-use Rattle.stores.specs.Images.{blank}
-use Rattle.stores.specs.Stores.{Store, powered as revived}
+use Rattle.stores.specs.Stores.{powered as revived}
 use Rattle.kinds.specs.Kinds.{Meaning}
 use Rattle.logblocks.specs.Blocks.{Entry, entry_of, header_in}
 use Rattle.graph.specs.declared.op.Op.{Op}

@@ -1,14 +1,13 @@
 -- Operations of a kind, and the pages of a volume, as a history has them; what a mount owes of a history.
-use Rattle.std.specs.Prelude.{◌≡◌, ℕ, ◌<◌, ◌≤◌, Bool, false, List, map, Some, None, Ok, Err, Option, Result}
+use Rattle.std.specs.Prelude.{◌≡◌, ℕ, ◌<◌, ◌≤◌, Bool, false, List, Some, None, Ok, Err, Option, Result}
 use Rattle.std.specs.List.{flat_map}
-use Rattle.sets.specs.Sets.{has, pages, rising}
+use Rattle.sets.specs.Sets.{has, pages}
 use Rattle.media.specs.Media.{Device, block_at}
 use Rattle.stores.specs.Stores.{Store}
 use Rattle.kinds.specs.Kinds.{Meaning}
-use Rattle.logblocks.specs.Blocks.{Entry, entry_of, header_in}
+use Rattle.logblocks.specs.Blocks.{entry_of, header_in}
 use Rattle.redo.specs.Histories.{Page, Operation, History, after, Ran}
-use Rattle.redo.specs.Prefixes.{uninstalled, Recoverable}
-use Rattle.graph.specs.declared.op.Op.{Op}
+use Rattle.redo.specs.Prefixes.{Recoverable}
 use Rattle.graph.specs.Listing.{Lists}
 use Rattle.volume.specs.Working.{number_of, contents_in, share_of, taken}
 use Rattle.volume.specs.LogReading.{last_number, record_block, end_of, record_fault}

@@ -1,11 +1,11 @@
 -- A volume, down and up, and the calls of an up one that write to neither end.
-use Rattle.std.specs.Prelude.{◌≡◌, ℕ, ◌+◌, ◌-◌, Bool, cond, not, List, [], ◌∷◌, length, Some, None, Ok, Err, Option, Result, ◌==◌, nat_le, nat_lt}
+use Rattle.std.specs.Prelude.{◌≡◌, ℕ, ◌+◌, ◌-◌, not, List, length, Some, None, Ok, Err, Option, Result, ◌==◌, nat_le, nat_lt}
 use Rattle.faults.specs.declared.fault.Fault.TheVariants.{NoSuchPage, WrongLength, BodyRefused, WaitingFull, LogFull, NumbersSpent, PagesRefused}
 use Rattle.faults.specs.Faults.{Report, report}
 use Rattle.media.specs.Media.{Device, check}
 use Rattle.stores.specs.Stores.{Store}
 use Rattle.kinds.specs.Kinds.{Meaning}
-use Rattle.logblocks.specs.Blocks.{Entry, block_of}
+use Rattle.logblocks.specs.Blocks.{block_of}
 use Rattle.graph.specs.declared.op.Op.{Op}
 use Rattle.graph.specs.Ops.{dirty_ops, Pages}
 use Rattle.redo.specs.WriteGraph.{Dirty, SameGroup, DirectlyBefore}

@@ -1,5 +1,5 @@
 -- The working pages: an image of 256 bytes for each page. Bytes 0 to 3 are the page's number, 4 to 227 its contents.
-use Rattle.std.specs.Prelude.{ℕ, ◌+◌, ◌*◌, true, cond, List, [], ◌++◌, drop, ◌==◌, nat_lt}
+use Rattle.std.specs.Prelude.{ℕ, ◌*◌, true, cond, List, [], ◌++◌, drop, ◌==◌, nat_lt}
 use Rattle.std.specs.List.{flat_map}
 use Rattle.sets.specs.Sets.{has, count, rising, pages}
 use Rattle.sets.specs.Words.{number, bytes_of, part}

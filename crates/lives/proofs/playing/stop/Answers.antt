@@ -1,5 +1,3 @@
-use Rattle.std.proofs.Common.{ap₂}
-use Rattle.volume.specs.Volumes.{Ends}
 use Rattle.volume.specs.Models.{up_model, down_model}
 use Rattle.lives.proofs.StepFacts.{stop-steps, same_ends}
 use Rattle.lives.proofs.playing.stop.Goals as goal

@@ -1,4 +1,4 @@
-use Rattle.std.proofs.Common.{◌≡◌, ◌<◌, length, refl, arith}
+use Rattle.std.proofs.Common.{◌<◌, length, refl, arith}
 use Rattle.lives.specs.Replays.{state_of}
 use Rattle.lives.proofs.PlayFacts.{replays-none, replays-more, rest-still}
 use Rattle.lives.proofs.replaying.play_all.Goals as goal

@@ -1,4 +1,4 @@
-use Rattle.std.proofs.Common.{◌≡◌, ℕ, ◌+◌, ◌-◌, ◌≤◌, sym, refl, ap, ◌∙◌, arith}
+use Rattle.std.proofs.Common.{ap, arith}
 use Rattle.faults.specs.Faults.{report}
 use Rattle.volume.specs.Working.{image_at}
 use Rattle.volume.specs.Recovering.{ends_of, redone_in}

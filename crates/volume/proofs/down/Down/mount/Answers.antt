@@ -1,4 +1,4 @@
-use Rattle.std.proofs.Common.{◌≡◌, sym, refl, ap, ◌∙◌}
+use Rattle.std.proofs.Common.{◌∙◌}
 use Rattle.tables.specs.Waiting.{waiting}
 use Rattle.volume.specs.Recovering.{ends_of}
 use Rattle.volume.proofs.MountLaws.{mount-recovers}
