@@ -14,7 +14,7 @@ mod pages;
 mod perform;
 mod recover;
 mod recovered;
-mod redo;
+mod redoing;
 mod run;
 mod status;
 mod trim;

@@ -8,7 +8,7 @@ ghost use Rattle.volume.specs.Recovering.{ends_of, up_with};
 use crate::ends::{check_numbers, first_number, stored_pages, too_short};
 use crate::log_reading::log_end;
 use crate::recovered::Recovered;
-use crate::redo::{check_records, redo_records};
+use crate::redoing::{check_records, redo_records};
 use faults::Fault;
 use kinds::Kind;
 use media::Medium;

@@ -4,7 +4,7 @@ use Rattle.faults.specs.Faults.{report}
 use Rattle.volume.specs.LogReading.{record_block, record_fault}
 use Rattle.volume.specs.Mounting.{records_fault}
 use Rattle.volume.proofs.RecoverLaws.{no_fault_yet, fault-none, fault-here}
-use Rattle.volume.proofs.redo.check_records.Goals as goal
+use Rattle.volume.proofs.redoing.check_records.Goals as goal
 
 pub loop-i-init : goal.loop-i-init
 loop-i-init g c =

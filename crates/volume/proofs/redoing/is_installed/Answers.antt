@@ -3,7 +3,7 @@ use Rattle.sets.specs.Sets.{has}
 use Rattle.redo.specs.Recovery.{every}
 use Rattle.volume.specs.Working.{image_at, number_of}
 use Rattle.volume.proofs.RecoverLaws.{every-none, every_more, every-not}
-use Rattle.volume.proofs.redo.is_installed.Goals as goal
+use Rattle.volume.proofs.redoing.is_installed.Goals as goal
 
 pub loop-page-init : goal.loop-page-init
 loop-page-init c = every-none (λ p. not (has c.args.writes p) || leb c.args.n (number_of (image_at c.args.pages.now.images p)))

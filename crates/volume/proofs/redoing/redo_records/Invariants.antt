@@ -2,7 +2,7 @@ use Rattle.std.proofs.Common.{◌≡◌, ◌≤◌, length, Ok}
 use Rattle.tables.specs.DirtyOps.{dirty}
 use Rattle.volume.specs.Mounting.{records_redone}
 use Rattle.volume.specs.Recovering.{redone_in}
-use Rattle.volume.proofs.redo.redo_records.Given as goal
+use Rattle.volume.proofs.redoing.redo_records.Given as goal
 
 -- the records so far are redone; so no more operations are dirty than records were read
 abbrev pub invariant-loop-i : goal.invariant-loop-i

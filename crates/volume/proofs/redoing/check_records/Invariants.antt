@@ -1,6 +1,6 @@
 use Rattle.std.proofs.Common.{◌≡◌, None}
 use Rattle.volume.specs.Mounting.{records_fault}
-use Rattle.volume.proofs.redo.check_records.Given as goal
+use Rattle.volume.proofs.redoing.check_records.Given as goal
 
 -- the records so far are without fault
 abbrev pub invariant-loop-i : goal.invariant-loop-i

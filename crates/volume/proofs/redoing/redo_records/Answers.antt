@@ -6,7 +6,7 @@ use Rattle.volume.specs.LogReading.{record_block, record_fault}
 use Rattle.volume.specs.Mounting.{records_redone, entry_at}
 use Rattle.volume.specs.Recovering.{redone_in}
 use Rattle.volume.proofs.RecoverLaws.{fault-none_at, redo-adds, redo-none, redo-more, redo-refused}
-use Rattle.volume.proofs.redo.redo_records.Goals as goal
+use Rattle.volume.proofs.redoing.redo_records.Goals as goal
 
 pub loop-i-init : goal.loop-i-init
 loop-i-init g c =

@@ -3,7 +3,7 @@ use Rattle.logblocks.specs.Views.{view}
 use Rattle.volume.specs.Mounting.{record_redone}
 use Rattle.volume.specs.Recovering.{redone_in}
 use Rattle.volume.proofs.RecoverLaws.{entry_read, not-installed}
-use Rattle.volume.proofs.redo.redo_record.Goals as goal
+use Rattle.volume.proofs.redoing.redo_record.Goals as goal
 
 pub returns : goal.returns
 returns g c =
