@@ -1,5 +1,5 @@
 -- Tables of rows: row a is the set of the pages that page a leads to.
-use Rattle.std.specs.Prelude.{◌≡◌, ℕ, ◌<◌, ◌≤◌, Bool, true, ◌&&◌, ◌⊎◌, List, length, get_or, slice_index, slice_index_or}
+use Rattle.std.specs.Prelude.{◌≡◌, ℕ, ◌<◌, ◌≤◌, Bool, true, ◌&&◌, ◌⊎◌, List, length, slice_index, slice_index_or}
 use Rattle.sets.specs.Sets.{has, Meet}
 use Rattle.graph.specs.declared.op.Op.{Op}
 use Rattle.graph.specs.Ops.{nothing}
@@ -21,7 +21,7 @@ ReadsFirst o p = (o.number < p.number) × Meet o.reads p.writes
 
 -- operation i of a list is such a p, and writes page b
 abbrev pub Hit : List Op → Op → ℕ → ℕ → Type 0
-Hit ops o b i = ReadsFirst o (slice_index_or ops i nothing) × (has (get_or ops i nothing).writes b ≡ true)
+Hit ops o b i = ReadsFirst o (slice_index_or ops i nothing) × (has (slice_index_or ops i nothing).writes b ≡ true)
 
 -- an arrow leads to page b from each page that o writes: o writes b, or some p of the list does that o reads before
 abbrev pub Target : List Op → Op → ℕ → Type 0
@@ -29,7 +29,7 @@ Target ops o b = (has o.writes b ≡ true) ⊎ SomeBelow (length ops) (Hit ops o
 
 -- operation i of a list makes an arrow from page a to page b
 abbrev pub MakesArrow : List Op → ℕ → ℕ → ℕ → Type 0
-MakesArrow ops a b i = (has (get_or ops i nothing).writes a ≡ true) × Target ops (slice_index_or ops i nothing) b
+MakesArrow ops a b i = (has (slice_index_or ops i nothing).writes a ≡ true) × Target ops (slice_index_or ops i nothing) b
 
 -- by a table of what reaches what: whether pages p and q reach each other
 abbrev pub mutual_reach : List ℕ → ℕ → ℕ → Bool

@@ -1,7 +1,7 @@
 // A kind of operation.
 ghost use Rattle.std.specs.Prelude.{◌≡◌, length};
 ghost use Rattle.kinds.specs.Kinds.{Meaning, Lawful, reply};
-ghost use Rattle.kinds.specs.Kinds.{answer as answer_of, filled as filledBy};
+ghost use Rattle.kinds.specs.Kinds.{answer as answer_of, filled as filled_by};
 
 // Names a limit of 1 to 4 pages, and gives two functions on any bodies. A kind is a type, and has no values.
 pub trait Kind {
@@ -23,7 +23,7 @@ pub trait Kind {
     // and leaves `new` then.
     fn effect(body: &[u8], old: &[u8], new: &mut [u8]) -> Result<(), u8>
         ensures answer { result ≡ answer_of (reply meaning body.now old.now (length new.old)) }
-        ensures buffer { new.new ≡ filledBy (reply meaning body.now old.now (length new.old)) new.old };
+        ensures buffer { new.new ≡ filled_by (reply meaning body.now old.now (length new.old)) new.old };
 
     ghost lawful: { Lawful meaning };
 }

@@ -1,7 +1,7 @@
 // From a body to an operation on pages.
 ghost use Rattle.std.specs.Prelude.{◌≡◌};
 ghost use Rattle.kinds.specs.Actions.{patch_of, fill_from, copy_of, swap_from};
-ghost use Rattle.kinds.specs.Actions.{parse as parseOf};
+ghost use Rattle.kinds.specs.Actions.{parse as parse_of};
 ghost use Rattle.kinds.specs.Views.{viewed};
 
 use crate::op::Op;
@@ -74,7 +74,7 @@ fn swap_of<'a>(a: u8, b: u8) -> Option<Op<'a>>
 impl<'a> Op<'a> {
     // The operation that a body says; none where the body is not of the form.
     pub fn parse(body: &'a [u8]) -> Option<Op<'a>>
-        ensures { viewed result ≡ parseOf body.now }
+        ensures { viewed result ≡ parse_of body.now }
     {
         match body {
             [1, page, offset, bytes @ ..] => patch_of(*page, *offset, bytes),

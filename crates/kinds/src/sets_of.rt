@@ -1,7 +1,7 @@
 // The pages that an operation on pages touches.
 ghost use Rattle.std.specs.Prelude.{◌≡◌};
-ghost use Rattle.kinds.specs.Actions.{sets as setsOf};
-ghost use Rattle.kinds.specs.PageSets.{only as onlyOf, both as bothOf, run as run_of};
+ghost use Rattle.kinds.specs.Actions.{sets as sets_of};
+ghost use Rattle.kinds.specs.PageSets.{only as only_of, both as both_of, run as run_of};
 ghost use Rattle.kinds.specs.Views.{view};
 
 use crate::op::Op;
@@ -9,14 +9,14 @@ use sets::{single, union};
 
 // The set of one page.
 pub fn only(page: u8) -> u64
-    ensures { result ≡ onlyOf page }
+    ensures { result ≡ only_of page }
 {
     single(page as u32)
 }
 
 // The set of two pages.
 pub fn both(a: u8, b: u8) -> u64
-    ensures { result ≡ bothOf a b }
+    ensures { result ≡ both_of a b }
 {
     union(single(a as u32), single(b as u32))
 }
@@ -35,7 +35,7 @@ pub fn run(from: u8, count: u8) -> u64
 impl Op<'_> {
     // The pages read, and the pages written.
     pub fn sets(&self) -> (u64, u64)
-        ensures { result ≡ setsOf (view self.now) }
+        ensures { result ≡ sets_of (view self.now) }
     {
         match self {
             Op::Patch { page, .. } => (only(*page), only(*page)),

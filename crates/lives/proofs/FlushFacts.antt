@@ -23,7 +23,7 @@ use Rattle.graph.specs.declared.op.Op.{Op}
 use Rattle.graph.specs.Ops.{nothing, dirty_ops}
 use Rattle.graph.specs.Listing.{Lists, writes_inside}
 use Rattle.graph.proofs.ListLaws.{listed-graph, listed-install, dirty-among}
-use Rattle.tables.specs.DirtyOps.{kept as keptOps, counts, counted, highest_among, numbers}
+use Rattle.tables.specs.DirtyOps.{kept as kept_ops, counts, counted, highest_among, numbers}
 use Rattle.tables.proofs.ListedLaws.{highest_is}
 use Rattle.volume.specs.Working.{in_row, taken}
 use Rattle.volume.specs.declared.status.Status.{Status}
@@ -198,14 +198,14 @@ module _ (k : Meaning) (b : Book) (v : Volume) (I : ℕ → Bool) (t : ℕ) (boo
       sized = λ q l. ap (λ (f : ℕ → List ℕ). length (f q)) e ∙ kept.sized q l;
     }
 
-    new-lists : Lists (keptOps group v.dirty) h J n
+    new-lists : Lists (kept_ops group v.dirty) h J n
     new-lists = listed-install v.dirty h I n group upheld.lists
 
-    new-graph : SameGraph (dirty_ops (keptOps group v.dirty)) (operations h J n)
-    new-graph = listed-graph (keptOps group v.dirty) h J n new-lists
+    new-graph : SameGraph (dirty_ops (kept_ops group v.dirty)) (operations h J n)
+    new-graph = listed-graph (kept_ops group v.dirty) h J n new-lists
 
     -- the other groups and their order stay
-    pub rest-lists : Rest d (dirty_ops (keptOps group v.dirty)) G
+    pub rest-lists : Rest d (dirty_ops (kept_ops group v.dirty)) G
     rest-lists = record {
       dirty = λ q. (
         λ x. let y = (after-install.rest.dirty q).0 ((new-graph.dirty q).0 x) in ((same_graph.dirty q).1 y.0, y.1),

@@ -8,7 +8,7 @@ use Rattle.faults.specs.declared.fault.Fault.TheVariants.{PowerLost}
 use Rattle.faults.specs.Faults.{Report, report}
 use Rattle.media.specs.declared.fate.Fate.{Fate}
 use Rattle.media.specs.declared.fate.Fate.TheVariants.{Lives, DiesOld, DiesNew}
-use Rattle.media.specs.Media.{Device, block_count, block_at, check, dies as diesBy, lands, write_fault, fated, after_write, WroteBy}
+use Rattle.media.specs.Media.{Device, block_count, block_at, check, dies as dies_by, lands, write_fault, fated, after_write, WroteBy}
 use Rattle.media.proofs.PlanLaws.{passed}
 use Rattle.kinds.specs.Kinds.{Meaning, Lawful}
 use Rattle.volume.specs.Working.{number_of}
@@ -73,10 +73,10 @@ log-same g t n m m' log e = record {
 
 -- a write that a live medium refuses: the power failed in it
 pub write-dies : (f : Fate) (m m' : Device) (b : ℕ) (d : List ℕ) (r : Report) → b < block_count m → length d ≡ 256 → m.live ≡ true → WroteBy f m b d (Some r) m'
-    → (diesBy f ≡ true) × (r ≡ report (PowerLost b)) × (m'.blocks ≡ cond (lands f) (set m.blocks b d) m.blocks)
-write-dies f m m' b d r in' long live by = go (by.answer ∙ fault) (by.after ∙ left) (diesBy f) refl
+    → (dies_by f ≡ true) × (r ≡ report (PowerLost b)) × (m'.blocks ≡ cond (lands f) (set m.blocks b d) m.blocks)
+write-dies f m m' b d r in' long live by = go (by.answer ∙ fault) (by.after ∙ left) (dies_by f) refl
   where
-    fault : write_fault f m b d ≡ check (diesBy f) (report (PowerLost b)) None
+    fault : write_fault f m b d ≡ check (dies_by f) (report (PowerLost b)) None
     fault = rw (lt-leb (block_count m) b in', eq-eqb (length d) 256 long, live) refl
 
     left : after_write f m b d ≡ fated f m b d
@@ -85,8 +85,8 @@ write-dies f m m' b d r in' long live by = go (by.answer ∙ fault) (by.after �
     some_same : (x y : Report) → ◌≡◌ {A = Option Report} (Some x) (Some y) → x ≡ y
     some_same x y h = cc
 
-    go : Some r ≡ check (diesBy f) (report (PowerLost b)) None → m' ≡ fated f m b d → (c : Bool) → diesBy f ≡ c
-        → (diesBy f ≡ true) × (r ≡ report (PowerLost b)) × (m'.blocks ≡ cond (lands f) (set m.blocks b d) m.blocks)
+    go : Some r ≡ check (dies_by f) (report (PowerLost b)) None → m' ≡ fated f m b d → (c : Bool) → dies_by f ≡ c
+        → (dies_by f ≡ true) × (r ≡ report (PowerLost b)) × (m'.blocks ≡ cond (lands f) (set m.blocks b d) m.blocks)
     go a e true ec = (ec, some_same r (report (PowerLost b)) (a ∙ ap (λ (c : Bool). check c (report (PowerLost b)) None) ec), ap (λ (x : Device). x.blocks) e)
     go a e false ec = absurd (none-some r (sym (ap (λ (c : Bool). check c (report (PowerLost b)) None) ec) ∙ sym a))
 
@@ -96,7 +96,7 @@ write-dies f m m' b d r in' long live by = go (by.answer ∙ fault) (by.after �
 abbrev Written : (ℕ → List ℕ) → ℕ → ℕ → ℕ → Option Report → Device → List (List ℕ) → Fate → Type 0
 Written g t n l None m left f = LogOf g t n m × (m.live ≡ true) × (left ≡ [])
 Written g t n l (Some r) m left f =
-    (x : ℕ) × (l ≤ x) × (x < n) × (r ≡ report (PowerLost (place_of x))) × LogOf g t (x + cond (lands f) 1 0) m × (diesBy f ≡ true)
+    (x : ℕ) × (l ≤ x) × (x < n) × (r ≡ report (PowerLost (place_of x))) × LogOf g t (x + cond (lands f) 1 0) m × (dies_by f ≡ true)
 
 abbrev BlocksGood : (ℕ → List ℕ) → ℕ → ℕ → Type 0
 BlocksGood g l n = (i : ℕ) → l ≤ i → i < n → (length (g i) ≡ 256) × (number_of (g i) ≡ i)

@@ -22,7 +22,7 @@ use Rattle.redo.proofs.GraphLaws.{reach-from, group-self, group-sym, group-trans
 use Rattle.redo.proofs.CountLaws.{one-group_fewer, no_groups_clean_lem}
 use Rattle.graph.specs.declared.op.Op.{Op}
 use Rattle.graph.specs.Ops.{dirty_ops}
-use Rattle.tables.specs.DirtyOps.{kept as keptOps}
+use Rattle.tables.specs.DirtyOps.{kept as kept_ops}
 use Rattle.volume.specs.declared.status.Status.{Status}
 use Rattle.volume.specs.declared.status.Status.TheVariants.{Well, Halted}
 use Rattle.volume.specs.Statuses.{halted_by, halting}
@@ -31,7 +31,7 @@ use Rattle.volume.specs.Forcing.{ForcedWell, trimmed_to, TrimmedWell}
 use Rattle.volume.specs.Flushing.{flush_check, still_dirty, GroupInstalled, FlushedWell, Flushed}
 use Rattle.volume.specs.Working.{in_row}
 use Rattle.volume.specs.Surviving.{stored_pages, MountRecovers}
-use Rattle.lives.specs.Books.{Event, Book, next_of, history_of, fed, neither_run_nor_mount, one_flush, flushes as flushesIn}
+use Rattle.lives.specs.Books.{Event, Book, next_of, history_of, fed, neither_run_nor_mount, one_flush, flushes as flushes_in}
 use Rattle.lives.specs.Books.Event.{run, force, flush, trim, stop, mount}
 use Rattle.lives.specs.Lives.{State, answered, Steps, GoesOn}
 use Rattle.lives.specs.Lives.State.{down, up}
@@ -132,7 +132,7 @@ module _ (k : Meaning) (b : Book) (v v' : Volume) (p group : ℕ) (o : Option Re
 
   passes : g.store.image ≡ installed group (in_row v.images) v.store.image → o ≡ None → Keeps k b (up v') → (j : ℕ) × (i ≡ suc j) × Tracked w v' j
   passes im e keeps' =
-      let new : v'.dirty ≡ keptOps group v.dirty = ap (λ (x : Volume). x.dirty) g.after ∙ ap (λ (x : Option Report). still_dirty x group v.dirty) e in
+      let new : v'.dirty ≡ kept_ops group v.dirty = ap (λ (x : Volume). x.dirty) g.after ∙ ap (λ (x : Option Report). still_dirty x group v.dirty) e in
       let rest : Rest (dirty_in v) (dirty_in v') G = subst (λ (ops : List Op). Rest (dirty_in v) (dirty_ops ops) G) (sym new)
       (rest-lists k b v keeps.I keeps.t keeps.booked keeps.kept upheld p group before told u.some-group u.none_before u.none-waits) in
       let left = rest-count (dirty_in v) (dirty_in v') p G i (λ q. told.group q) rest tr.counted in
@@ -233,7 +233,7 @@ module _ (k : Meaning) (law : Lawful k) (wf : AllWellFormed k) (recovers : (e : 
     keeps : Keeps k book s
     same : after (history_of k book) (next_of book) ≡ w
     left : ℕ
-    all : left + flushesIn es ≡ j
+    all : left + flushes_in es ≡ j
     tracks : Tracks w s left
 
   goes-tracks : {s₀ s : State} {es : List Event} → GoesOn k s₀ es s → AllByRecursion (λ e. neither_run_nor_mount e ≡ true) es → (b : Book) → Keeps k b s₀ → (j : ℕ)
@@ -252,9 +252,9 @@ module _ (k : Meaning) (law : Lawful k) (wf : AllWellFormed k) (recovers : (e : 
       }
 
   pub flushed-clean : (v : Volume) (es : List Event) (s : State) (b : Book) → Keeps k b (up v) → v.status ≡ Well → GoesOn k (up v) es s
-      → AllByRecursion (λ e. neither_run_nor_mount e ≡ true) es → Tracked (after (history_of k b) (next_of b)) v (flushesIn es) → Clean (history_of k b) (next_of b) s
+      → AllByRecursion (λ e. neither_run_nor_mount e ≡ true) es → Tracked (after (history_of k b) (next_of b)) v (flushes_in es) → Clean (history_of k b) (next_of b) s
   flushed-clean v es s b keeps well goes no_run c =
-      let t = goes-tracks goes no_run b keeps (flushesIn es) c in
+      let t = goes-tracks goes no_run b keeps (flushes_in es) c in
       ends s (subst (Tracks (after (history_of k b) (next_of b)) s) (let a = t.all in let z : t.left ≡ 0 = omega arith in z) t.tracks)
     where
       ends : (s : State) → Tracks (after (history_of k b) (next_of b)) s 0 → Clean (history_of k b) (next_of b) s

@@ -31,7 +31,7 @@ use Rattle.volume.specs.Volumes.{Volume, or_else, unless_halted, room_fault, sco
 use Rattle.volume.specs.Surviving.{page_of, stored_pages, shares, operation_by, operation_of}
 use Rattle.volume.proofs.WorkingLaws.{room-more}
 use Rattle.lives.specs.Books.{Book, next_of, next_logged, body_at, history_of, with_run, fed}
-use Rattle.lives.specs.Books.Event.{run as ran-event}
+use Rattle.lives.specs.Books.Event.{run as ran_event}
 use Rattle.lives.specs.Lives.{ends_of, answered}
 use Rattle.lives.specs.Lives.State.{up}
 use Rattle.lives.proofs.Keeping.{Keeps, Kept, Upheld, Booked, Sound, Waits, entry_by, block_for}
@@ -265,11 +265,11 @@ unless-none (Halted f) y e = absurd (none-some (report f) (sym e))
 unless-none Well y e = (refl, e)
 
 pub run-keeps_all : (k : Meaning) → Lawful k → AllWellFormed k → (b : Book) (v : Volume) (body : List ℕ) → Keeps k b (up v)
-    → Keeps k (fed b (ran-event body (answered v.next (run_fault k v body)))) (up (after_run k v body))
+    → Keeps k (fed b (ran_event body (answered v.next (run_fault k v body)))) (up (after_run k v body))
 run-keeps_all k law wf b v body keeps = admits (admit_fault k v body) refl
   where
     takes : (r w : ℕ) → k.scope body ≡ Ok (r, w) → v.status ≡ Well → length body ≤ 232 → room_fault v ≡ None → (x : Result (List ℕ) ℕ) → outcome k body r v.images ≡ x
-        → Keeps k (fed b (ran-event body (answered v.next (pages_fault x)))) (up (entered x body r w v))
+        → Keeps k (fed b (ran_event body (answered v.next (pages_fault x)))) (up (entered x body r w v))
     takes r w scope well short room (Ok new) out =
         let r1 = check-none (leb 16 (length v.waiting)) (report WaitingFull) _ room in
         let r2 = check-none (leb 128 (v.next - v.first)) (report LogFull) _ r1.1 in
@@ -279,12 +279,12 @@ run-keeps_all k law wf b v body keeps = admits (admit_fault k v body) refl
     takes r w scope well short room (Err c) out = keeps
 
     scopes : (s : Result (ℕ × ℕ) ℕ) → k.scope body ≡ s → v.status ≡ Well → length body ≤ 232 → scope_fault v s ≡ None
-        → Keeps k (fed b (ran-event body (answered v.next (enter_fault k v body s)))) (up (enter_after k v body s))
+        → Keeps k (fed b (ran_event body (answered v.next (enter_fault k v body s)))) (up (enter_after k v body s))
     scopes (Ok (r, w)) scope well short room = takes r w scope well short room (outcome k body r v.images) refl
     scopes (Err c) scope well short room = absurd (none-some _ (sym room))
 
     admits : (a : Option Report) → admit_fault k v body ≡ a
-        → Keeps k (fed b (ran-event body (answered v.next (or_else a (enter_fault k v body (k.scope body)))))) (up (unless_refused a v (enter_after k v body (k.scope body))))
+        → Keeps k (fed b (ran_event body (answered v.next (or_else a (enter_fault k v body (k.scope body)))))) (up (unless_refused a v (enter_after k v body (k.scope body))))
     admits None ok =
         let one = unless-none v.status _ ok in
         let two = check-none (ltb 232 (length body)) (report (WrongLength (length body))) (scope_fault v (k.scope body)) one.1 in

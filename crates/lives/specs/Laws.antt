@@ -73,7 +73,7 @@ IfWell P (up v) = v.status ≡ Well → P v
 IfWell P (down e) = Unit {0}
 
 -- The law at a point of a life, for its book, in its state.
-pub record LawOf (k : Meaning) (b : Book) (is-quiet : Bool) (s : State) : Type 0 where
+pub record LawOf (k : Meaning) (b : Book) (is_quiet : Bool) (s : State) : Type 0 where
   -- the installed operations: a prefix that explains the stored pages, and whose numbers these bear; only logged ones are installed
   pub I : ℕ → Bool
   pub explained : Recoverable (history_of k b) I (next_of b) (stored_pages (ends s).store)
@@ -84,7 +84,7 @@ pub record LawOf (k : Meaning) (b : Book) (is-quiet : Bool) (s : State) : Type 0
   -- what was acknowledged is logged, and what is logged survives
   pub acknowledged : b.acknowledged ≤ b.logged
   pub logged : b.logged ≤ length b.bodies
-  pub flushable : is-quiet ≡ true → IfWell (Flushable k (history_of k b) (next_of b)) s
+  pub flushable : is_quiet ≡ true → IfWell (Flushable k (history_of k b) (next_of b)) s
 
 abbrev pub Law : Meaning → ℕ → List Event → State → Type 0
 Law k f es s = LawOf k (book_of f es) (quiet es) s

@@ -1,6 +1,6 @@
 // What becomes of a block write that a live medium carries out.
 ghost use Rattle.std.specs.Prelude.{◌≡◌};
-ghost use Rattle.media.specs.Media.{dies as diesBy, lands as landsBy};
+ghost use Rattle.media.specs.Media.{dies as dies_by, lands as lands_by};
 
 #[derive(Clone, Copy, PartialEq, Eq, Debug)]
 pub enum Fate {
@@ -15,7 +15,7 @@ pub enum Fate {
 impl Fate {
     // Whether the power fails in the write.
     pub fn dies(self) -> bool
-        ensures { result ≡ diesBy self }
+        ensures { result ≡ dies_by self }
     {
         match self {
             Fate::Lives => false,
@@ -26,7 +26,7 @@ impl Fate {
 
     // Whether the block becomes new.
     pub fn lands(self) -> bool
-        ensures { result ≡ landsBy self }
+        ensures { result ≡ lands_by self }
     {
         match self {
             Fate::Lives => true,

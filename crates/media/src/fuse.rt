@@ -1,6 +1,6 @@
 // The fuse of a memory medium: after so many writes the next one dies.
 ghost use Rattle.std.specs.Prelude.{◌≡◌};
-ghost use Rattle.media.specs.Memory.{fate_of, burnt as burntBy, renewed as renewedBy};
+ghost use Rattle.media.specs.Memory.{fate_of, burnt as burnt_by, renewed as renewed_by};
 
 use crate::fate::Fate;
 
@@ -34,7 +34,7 @@ impl Fuse {
 
     // The fuse after a write that was carried out.
     pub fn burnt(self) -> Fuse
-        ensures { result ≡ burntBy self }
+        ensures { result ≡ burnt_by self }
     {
         match self {
             Fuse::Absent => Fuse::Absent,
@@ -50,7 +50,7 @@ impl Fuse {
 
     // The fuse after power-on.
     pub fn renewed(self) -> Fuse
-        ensures { result ≡ renewedBy self }
+        ensures { result ≡ renewed_by self }
     {
         match self {
             Fuse::Blown => Fuse::Absent,

@@ -1,7 +1,7 @@
 // Sets of the 64 pages: bit p of a u64 stands for page p.
 ghost use Rattle.std.specs.Prelude.{◌≡◌, not, ◌&&◌, ◌||◌, Decides, ◌==◌, nat_lt};
 ghost use Rattle.sets.specs.Sets.{has, differs, SetOf, Meet, NextPage};
-ghost use Rattle.sets.specs.Sets.{size as size_of, lowest as lowestOf};
+ghost use Rattle.sets.specs.Sets.{size as size_of, lowest as lowest_of};
 
 // Whether page p is in the set s.
 pub fn contains(s: u64, p: u32) -> bool
@@ -68,7 +68,7 @@ pub fn size(s: u64) -> u32
 
 // The lowest page of s; 64 where s is empty.
 pub fn lowest(s: u64) -> u32
-    ensures { result ≡ lowestOf s }
+    ensures { result ≡ lowest_of s }
 {
     s.trailing_zeros()
 }

@@ -2,7 +2,7 @@
 ghost use Rattle.std.specs.Prelude.{◌≡◌, ◌≤◌, length};
 ghost use Rattle.faults.specs.Faults.{refusal};
 ghost use Rattle.media.specs.Media.{block_count};
-ghost use Rattle.media.specs.Media.{powered as poweredMedium};
+ghost use Rattle.media.specs.Media.{powered as powered_medium};
 ghost use Rattle.media.specs.Plans.{Ran};
 ghost use Rattle.stores.specs.Stores.{store_on, Installed, powered, Carried};
 ghost use Rattle.stores.specs.Plans.{journal_writes, journal_plan};
@@ -80,7 +80,7 @@ impl<M: Medium> PageStore for JournalStore<M> {
     fn power_on(&mut self)
         ensures after { store_on (M.Medium.model self.new.medium) ≡ powered (store_on (M.Medium.model self.old.medium)) }
         ensures plan { journal_plan (M.Medium.model self.new.medium).blocks ≡ journal_plan (M.Medium.model self.old.medium).blocks }
-        ensures medium { M.Medium.model self.new.medium ≡ poweredMedium (M.Medium.model self.old.medium) }
+        ensures medium { M.Medium.model self.new.medium ≡ powered_medium (M.Medium.model self.old.medium) }
     {
         self.medium.power_on();
     }

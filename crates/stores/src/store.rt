@@ -9,7 +9,7 @@ pub trait PageStore {
     // how many blocks the store needs
     const BLOCKS: usize;
 
-    // the same number for contracts, which cannot name a constant
+    // the same number for contracts
     ghost needs: { ℕ };
 
     // the images and the state

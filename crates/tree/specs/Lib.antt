@@ -1,4 +1,5 @@
 pub mod Orders
+pub mod OrderLaws
 pub mod Nodes
 pub mod Steps
 pub mod Laws

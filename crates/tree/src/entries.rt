@@ -1,7 +1,7 @@
 // The entries of a page, read from its contents. Bytes past the end of a slice read as zero.
 ghost use Rattle.std.specs.Prelude.{◌≡◌, ◌+◌, ◌*◌, ◌≤◌, false, slice_index};
 ghost use Rattle.sets.specs.Words.{number, part};
-ghost use Rattle.tree.specs.Nodes.{count as count_of, entries, entries_of, find, absent as absentOf, rising as risingOf, fresh as fresh_of, before as beforeOf};
+ghost use Rattle.tree.specs.Nodes.{count as count_of, entries, entries_of, find, absent as absent_of, rising as rising_of, fresh as fresh_of, before as before_of};
 
 use crate::order::KeyOrder;
 use sets::{contains, single, u32_at, union};
@@ -50,7 +50,7 @@ pub fn search(c: &[u8], key: u32) -> Option<u32>
 
 // Whether a key is absent among the entries of a page.
 pub fn absent(c: &[u8], key: u32) -> bool
-    ensures { result ≡ absentOf key (entries c.now) }
+    ensures { result ≡ absent_of key (entries c.now) }
 {
     for i in 0..count(c) {
         if key_at(c, i) == key {
@@ -62,7 +62,7 @@ pub fn absent(c: &[u8], key: u32) -> bool
 
 // How many entries of a page stand before the first whose key is not below `key`.
 pub fn before<O: KeyOrder>(c: &[u8], key: u32) -> usize
-    ensures { result ≡ beforeOf O.KeyOrder.ordering key (entries c.now) }
+    ensures { result ≡ before_of O.KeyOrder.ordering key (entries c.now) }
 {
     let n = count(c);
     for i in 0..n {
@@ -75,7 +75,7 @@ pub fn before<O: KeyOrder>(c: &[u8], key: u32) -> usize
 
 // Whether the keys of a page rise.
 pub fn rising<O: KeyOrder>(c: &[u8]) -> bool
-    ensures { result ≡ risingOf O.KeyOrder.ordering (entries c.now) }
+    ensures { result ≡ rising_of O.KeyOrder.ordering (entries c.now) }
 {
     let mut last = key_at(c, 0);
     for i in 1..count(c) {

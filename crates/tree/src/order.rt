@@ -1,7 +1,7 @@
 // Orders on keys.
 ghost use Rattle.std.specs.Prelude.{◌≡◌, nat_lt};
 ghost use Rattle.tree.specs.Orders.{KeyOrdering, TotalOrder};
-ghost use Rattle.std.proofs.Common.{rules};
+ghost use Rattle.tree.specs.OrderLaws.{unsigned_total};
 
 // An order is a type, and has no values.
 pub trait KeyOrder {
@@ -26,7 +26,7 @@ pub struct Unsigned;
 impl KeyOrder for Unsigned {
     ghost ordering = { record { less = nat_lt; least = 0 } };
 
-    ghost ordered = { Prim.search rules };
+    ghost ordered = { unsigned_total };
 
     fn less(a: u32, b: u32) -> bool {
         a < b

@@ -1,6 +1,6 @@
 // From a body to a step, and the pages that it touches.
 ghost use Rattle.std.specs.Prelude.{◌≡◌, ◌&&◌, nat_le};
-ghost use Rattle.tree.specs.Steps.{insert_from, page_pair, when, parse as parseOf, sets as setsOf};
+ghost use Rattle.tree.specs.Steps.{insert_from, page_pair, when, parse as parse_of, sets as sets_of};
 ghost use Rattle.tree.specs.declared.step.Step.TheVariants.{Lower as LowerStep, Upper as UpperStep, Cut as CutStep};
 
 use crate::step::Step;
@@ -70,7 +70,7 @@ fn cut_of(leaf: u8, upper: u8) -> Option<Step>
 impl Step {
     // The step that a body says; none where the body is not of the form.
     pub fn parse(body: &[u8]) -> Option<Step>
-        ensures { result ≡ parseOf body.now }
+        ensures { result ≡ parse_of body.now }
     {
         match body {
             [1, page, word @ ..] => insert_of(*page, word),
@@ -84,7 +84,7 @@ impl Step {
 
     // The pages read, and the pages written.
     pub fn sets(&self) -> (u64, u64)
-        ensures { result ≡ setsOf self.now }
+        ensures { result ≡ sets_of self.now }
     {
         match self {
             Step::Insert { page, .. } => (only(*page), only(*page)),

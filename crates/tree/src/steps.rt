@@ -1,8 +1,8 @@
 // The steps on the tree.
 ghost use Rattle.std.specs.Prelude.{◌≡◌, ℕ, ◌≤◌, length, take, drop, nat_le};
-ghost use Rattle.kinds.specs.Kinds.{answer as answer_of, filled as filledBy};
-ghost use Rattle.tree.specs.Nodes.{count as count_of, entries, before as beforeOf, hit as hitOf, put as put_of, renew};
-ghost use Rattle.tree.specs.Steps.{inserted, lower as lowerOf, upper as upperOf, cut as cut_of, grow as growOf, change, Ready};
+ghost use Rattle.kinds.specs.Kinds.{answer as answer_of, filled as filled_by};
+ghost use Rattle.tree.specs.Nodes.{count as count_of, entries, before as before_of, hit as hit_of, put as put_of, renew};
+ghost use Rattle.tree.specs.Steps.{inserted, lower as lower_of, upper as upper_of, cut as cut_of, grow as grow_of, change, Ready};
 
 use crate::entries::{before, count, key_at};
 use crate::forms::{FULL, can_cut, is_full_leaf, is_leaf};
@@ -16,7 +16,7 @@ const HALF: usize = 13;
 
 // Whether entry i has the key: 1, or 0.
 fn hit(c: &[u8], i: usize, key: u32) -> usize
-    ensures { result ≡ hitOf key (drop i (entries c.now)) }
+    ensures { result ≡ hit_of key (drop i (entries c.now)) }
 {
     if i >= count(c) {
         return 0;
@@ -48,7 +48,7 @@ fn put<O: KeyOrder>(mark: u8, key: u32, value: u32, old: &[u8], new: &mut [u8])
 fn insert<O: KeyOrder>(key: u32, value: u32, old: &[u8], new: &mut [u8]) -> Result<(), u8>
     requires { (length old.now ≡ 224) × (length new.old ≡ 224) }
     ensures answer { result ≡ answer_of (inserted O.KeyOrder.ordering key value old.now) }
-    ensures buffer { new.new ≡ filledBy (inserted O.KeyOrder.ordering key value old.now) new.old }
+    ensures buffer { new.new ≡ filled_by (inserted O.KeyOrder.ordering key value old.now) new.old }
 {
     if !is_leaf::<O>(old) {
         return Err(3);
@@ -63,8 +63,8 @@ fn insert<O: KeyOrder>(key: u32, value: u32, old: &[u8], new: &mut [u8]) -> Resu
 // Makes a fresh leaf of the lower half of a full one.
 fn lower<O: KeyOrder>(old: &[u8], new: &mut [u8]) -> Result<(), u8>
     requires { (length old.now ≡ 224) × (length new.old ≡ 224) }
-    ensures answer { result ≡ answer_of (lowerOf O.KeyOrder.ordering old.now) }
-    ensures buffer { new.new ≡ filledBy (lowerOf O.KeyOrder.ordering old.now) new.old }
+    ensures answer { result ≡ answer_of (lower_of O.KeyOrder.ordering old.now) }
+    ensures buffer { new.new ≡ filled_by (lower_of O.KeyOrder.ordering old.now) new.old }
 {
     if !is_full_leaf::<O>(old) {
         return Err(3);
@@ -76,8 +76,8 @@ fn lower<O: KeyOrder>(old: &[u8], new: &mut [u8]) -> Result<(), u8>
 // Makes a fresh leaf of the upper half of a full one.
 fn upper<O: KeyOrder>(old: &[u8], new: &mut [u8]) -> Result<(), u8>
     requires { (length old.now ≡ 224) × (length new.old ≡ 224) }
-    ensures answer { result ≡ answer_of (upperOf O.KeyOrder.ordering old.now) }
-    ensures buffer { new.new ≡ filledBy (upperOf O.KeyOrder.ordering old.now) new.old }
+    ensures answer { result ≡ answer_of (upper_of O.KeyOrder.ordering old.now) }
+    ensures buffer { new.new ≡ filled_by (upper_of O.KeyOrder.ordering old.now) new.old }
 {
     if !is_full_leaf::<O>(old) {
         return Err(3);
@@ -90,7 +90,7 @@ fn upper<O: KeyOrder>(old: &[u8], new: &mut [u8]) -> Result<(), u8>
 fn cut<O: KeyOrder>(q: u8, old: &[u8], new: &mut [u8]) -> Result<(), u8>
     requires { (length old.now ≡ 448) × ((length new.old ≡ 448) × (q ≤ 26)) }
     ensures answer { result ≡ answer_of (cut_of O.KeyOrder.ordering q (take 224 old.now) (drop 224 old.now)) }
-    ensures buffer { new.new ≡ filledBy (cut_of O.KeyOrder.ordering q (take 224 old.now) (drop 224 old.now)) new.old }
+    ensures buffer { new.new ≡ filled_by (cut_of O.KeyOrder.ordering q (take 224 old.now) (drop 224 old.now)) new.old }
 {
     let root = &old[0..CONTENTS];
     let leaf = &old[CONTENTS..2 * CONTENTS];
@@ -105,8 +105,8 @@ fn cut<O: KeyOrder>(q: u8, old: &[u8], new: &mut [u8]) -> Result<(), u8>
 // Turns a full leaf to a root of two entries.
 fn grow<O: KeyOrder>(old: &[u8], new: &mut [u8]) -> Result<(), u8>
     requires { (length old.now ≡ 224) × (length new.old ≡ 224) }
-    ensures answer { result ≡ answer_of (growOf O.KeyOrder.ordering old.now) }
-    ensures buffer { new.new ≡ filledBy (growOf O.KeyOrder.ordering old.now) new.old }
+    ensures answer { result ≡ answer_of (grow_of O.KeyOrder.ordering old.now) }
+    ensures buffer { new.new ≡ filled_by (grow_of O.KeyOrder.ordering old.now) new.old }
 {
     if !is_full_leaf::<O>(old) {
         return Err(3);
@@ -120,7 +120,7 @@ impl Step {
     pub(crate) fn take<O: KeyOrder>(&self, old: &[u8], new: &mut [u8]) -> Result<(), u8>
         requires { Ready self.now (length old.now) (length new.old) }
         ensures answer { result ≡ answer_of (change O.KeyOrder.ordering self.now old.now) }
-        ensures buffer { new.new ≡ filledBy (change O.KeyOrder.ordering self.now old.now) new.old }
+        ensures buffer { new.new ≡ filled_by (change O.KeyOrder.ordering self.now old.now) new.old }
     {
         match self {
             Step::Insert { key, value, .. } => insert::<O>(*key, *value, old, new),

@@ -4,7 +4,7 @@ use Rattle.std.specs.List.{flat_map}
 use Rattle.std.proofs.lemmas.List.{append-nil, take_all, take_at, drop_at, length-take, length-drop}
 use Rattle.std.proofs.lemmas.Bool.{cases_lt, cond-true, cond-false, eq-eqb, ne_eqb, and_from, le-leb}
 use Rattle.std.proofs.lemmas.Bool.Decides.{nat_tests}
-use Rattle.sets.specs.Sets as in-set
+use Rattle.sets.specs.Sets as in_set
 use Rattle.sets.specs.Sets.{has, pages}
 use Rattle.sets.proofs.SetLaws.{rising_none, rising-count}
 use Rattle.kinds.specs.PageSets.{only, both}
@@ -21,30 +21,30 @@ use Rattle.treemap.proofs.FormLaws.{full_parts, count_entries}
 
 -- ---- sets of one page, and of page 0 and another
 
-rising-gap : (f : ℕ → Bool) (m n : ℕ) → m ≤ n → ((q : ℕ) → m ≤ q → q < n → f q ≡ false) → in-set.rising f n ≡ in-set.rising f m
-unfolding in-set.rising
-rising-gap f m zero le out = let z : m ≡ 0 = omega arith in ap (in-set.rising f) (sym z)
+rising-gap : (f : ℕ → Bool) (m n : ℕ) → m ≤ n → ((q : ℕ) → m ≤ q → q < n → f q ≡ false) → in_set.rising f n ≡ in_set.rising f m
+unfolding in_set.rising
+rising-gap f m zero le out = let z : m ≡ 0 = omega arith in ap (in_set.rising f) (sym z)
 rising-gap f m (suc n) le out = elim (cases_lt m (suc n)) [
-  | inl l ↦ ap (λ b. in-set.rising f n ++ cond b (n ∷ []) []) (out n (omega arith) (omega arith)) ∙ append-nil (in-set.rising f n) ∙ rising-gap f m n (omega arith) (λ q a b. out q a (omega arith))
-  | inr g ↦ let z : m ≡ suc n = omega arith in ap (in-set.rising f) (sym z)
+  | inl l ↦ ap (λ b. in_set.rising f n ++ cond b (n ∷ []) []) (out n (omega arith) (omega arith)) ∙ append-nil (in_set.rising f n) ∙ rising-gap f m n (omega arith) (λ q a b. out q a (omega arith))
+  | inr g ↦ let z : m ≡ suc n = omega arith in ap (in_set.rising f) (sym z)
 ]
 
-rising-at : (f : ℕ → Bool) (p : ℕ) → f p ≡ true → in-set.rising f (suc p) ≡ in-set.rising f p ++ (p ∷ [])
-unfolding in-set.rising
-rising-at f p e = ap (λ b. in-set.rising f p ++ cond b (p ∷ []) []) e
+rising-at : (f : ℕ → Bool) (p : ℕ) → f p ≡ true → in_set.rising f (suc p) ≡ in_set.rising f p ++ (p ∷ [])
+unfolding in_set.rising
+rising-at f p e = ap (λ b. in_set.rising f p ++ cond b (p ∷ []) []) e
 
 -- the first page of a set
-rising-first : (f : ℕ → Bool) (p : ℕ) → f p ≡ true → ((q : ℕ) → q < p → f q ≡ false) → in-set.rising f (suc p) ≡ p ∷ []
+rising-first : (f : ℕ → Bool) (p : ℕ) → f p ≡ true → ((q : ℕ) → q < p → f q ≡ false) → in_set.rising f (suc p) ≡ p ∷ []
 rising-first f p e out = rising-at f p e ∙ ap (λ xs. xs ++ (p ∷ [])) (rising-gap f 0 p (omega arith) (λ q _ l. out q l) ∙ rising_none f)
 
-first_count : (f : ℕ → Bool) (p : ℕ) → ((q : ℕ) → q < p → f q ≡ false) → in-set.count f p ≡ 0
+first_count : (f : ℕ → Bool) (p : ℕ) → ((q : ℕ) → q < p → f q ≡ false) → in_set.count f p ≡ 0
 first_count f p out = sym (rising-count f p) ∙ ap length (rising-gap f 0 p (omega arith) (λ q _ l. out q l) ∙ rising_none f)
 
 -- the page that comes first takes the first 224 bytes, the next one the next
-first-share : (set p : ℕ) (new : List ℕ) → in-set.count (has set) p ≡ 0 → share_of set new p ≡ take 224 new
+first-share : (set p : ℕ) (new : List ℕ) → in_set.count (has set) p ≡ 0 → share_of set new p ≡ take 224 new
 first-share set p new e = ap (λ n. take 224 (drop (224 * n) new)) e
 
-next-share : (set p : ℕ) (new : List ℕ) → in-set.count (has set) p ≡ 1 → share_of set new p ≡ take 224 (drop 224 new)
+next-share : (set p : ℕ) (new : List ℕ) → in_set.count (has set) p ≡ 1 → share_of set new p ≡ take 224 (drop 224 new)
 next-share set p new e = ap (λ n. take 224 (drop (224 * n) new)) e
 
 written_in : (set p : ℕ) (new : List ℕ) (s : Pages) → has set p ≡ true → written set new s p ≡ share_of set new p
@@ -95,7 +95,7 @@ module _ (p : ℕ) (low : 1 ≤ p) (l : p < 64) where
       at : (eqb p 0 || eqb p p) ≡ true
       at = grind (arith, nat_tests)
 
-  upto : in-set.rising (has (both 0 p)) p ≡ 0 ∷ []
+  upto : in_set.rising (has (both 0 p)) p ≡ 0 ∷ []
   upto = rising-gap (has (both 0 p)) 1 p low (λ q a b. both-not q (λ e. omega arith) (λ e. omega arith)) ∙ rising-first (has (both 0 p)) 0 (both-has 0) (λ q a. absurd (omega arith))
 
   both_read : (s : Pages) → gathered (both 0 p) s ≡ s 0 ++ s p

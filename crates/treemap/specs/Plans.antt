@@ -1,7 +1,7 @@
 -- What a step makes of pages, and the steps of a put.
 use Rattle.std.specs.Prelude.{ℕ, ◌+◌, ◌*◌, Bool, cond, ◌&&◌, List, [], ◌∷◌, ◌++◌, Some, None, Ok, Err, Option, Result, ◌==◌}
 use Rattle.std.specs.List.{flat_map}
-use Rattle.sets.specs.Sets as in-set
+use Rattle.sets.specs.Sets as in_set
 use Rattle.sets.specs.Sets.{has, pages}
 use Rattle.sets.specs.Words.{part}
 use Rattle.tree.specs.declared.step.Step.{Step}
@@ -19,7 +19,7 @@ gathered set s = flat_map s (pages set)
 
 -- of contents that stand one after another for the pages of a set, rising: those of page p
 abbrev pub share_of : ℕ → List ℕ → ℕ → List ℕ
-share_of set new p = part (224 * in-set.count (has set) p) 224 new
+share_of set new p = part (224 * in_set.count (has set) p) 224 new
 
 -- the pages after those of a set took new contents
 unfoldable pub written : ℕ → List ℕ → Pages → Pages

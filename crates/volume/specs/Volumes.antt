@@ -9,8 +9,8 @@ use Rattle.logblocks.specs.Blocks.{block_of}
 use Rattle.graph.specs.declared.op.Op.{Op}
 use Rattle.graph.specs.Ops.{dirty_ops, Pages}
 use Rattle.redo.specs.WriteGraph.{Dirty, SameGroup, DirectlyBefore}
-use Rattle.tables.specs.Waiting.{pushed as waitsToo}
-use Rattle.tables.specs.DirtyOps.{pushed as dirtyToo}
+use Rattle.tables.specs.Waiting.{pushed as waits_too}
+use Rattle.tables.specs.DirtyOps.{pushed as dirty_too}
 use Rattle.volume.specs.declared.status.Status.{Status}
 use Rattle.volume.specs.declared.status.Status.TheVariants.{Well, Halted}
 use Rattle.volume.specs.Statuses.{halting}
@@ -91,8 +91,8 @@ with_operation body reads writes new v = record {
   store = v.store;
   plan = v.plan;
   images = written writes v.next new v.images;
-  waiting = waitsToo v.waiting (block_of (record { number = v.next; reads = reads; writes = writes; body = body }));
-  dirty = dirtyToo v.dirty (record { number = v.next; reads = reads; writes = writes });
+  waiting = waits_too v.waiting (block_of (record { number = v.next; reads = reads; writes = writes; body = body }));
+  dirty = dirty_too v.dirty (record { number = v.next; reads = reads; writes = writes });
   first = v.first;
   next = v.next + 1;
   status = v.status;

@@ -2,8 +2,8 @@
 ghost use Rattle.std.specs.Prelude.{◌≡◌, ℕ, ◌-◌, length, IfOk};
 ghost use Rattle.sets.specs.Sets.{size as size_of};
 ghost use Rattle.faults.specs.Faults.{refusal};
-ghost use Rattle.tables.specs.Waiting.{waiting as waitingOf};
-ghost use Rattle.tables.specs.DirtyOps.{dirty as dirtyOf};
+ghost use Rattle.tables.specs.Waiting.{waiting as waiting_of};
+ghost use Rattle.tables.specs.DirtyOps.{dirty as dirty_of};
 ghost use Rattle.volume.specs.Models.{up_model};
 ghost use Rattle.volume.specs.Volumes.{Told};
 ghost use Rattle.volume.specs.Flushing.{flush_check, GroupInstalled, FlushedWell, Flushed};
@@ -19,7 +19,7 @@ use stores::PageStore;
 impl<K: Kind, L: Medium, S: PageStore> Up<K, L, S> {
     // The number of the first record that waits; the next number if none does.
     pub(crate) fn first_waiting(&self) -> u32
-        ensures { result ≡ self.now.next - length (waitingOf self.now.waiting) }
+        ensures { result ≡ self.now.next - length (waiting_of self.now.waiting) }
     {
         self.next.saturating_sub(self.waiting.len() as u32)
     }

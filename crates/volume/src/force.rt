@@ -2,7 +2,7 @@
 ghost use Rattle.std.specs.Prelude.{◌≡◌, ◌-◌, ◌<◌, length, drop, replicate, IfOk, slice_index_or};
 ghost use Rattle.faults.specs.Faults.{refusal};
 ghost use Rattle.media.specs.Media.{Wrote};
-ghost use Rattle.tables.specs.Waiting.{waiting as waitingOf};
+ghost use Rattle.tables.specs.Waiting.{waiting as waiting_of};
 ghost use Rattle.volume.specs.Working.{number_of};
 ghost use Rattle.volume.specs.LogReading.{place_of};
 ghost use Rattle.volume.specs.Models.{up_model};
@@ -21,7 +21,7 @@ use tables::Waiting;
 
 // Writes the i-th of the records that wait.
 fn write_record<L: Medium>(log: &mut L, waiting: &Waiting, i: usize) -> Result<(), Fault>
-    ensures { Wrote (L.Medium.model log.old) (place_of (number_of (slice_index_or (waitingOf waiting.now) i (replicate 256 0)))) (slice_index_or (waitingOf waiting.now) i (replicate 256 0)) (refusal result) (L.Medium.model log.new) }
+    ensures { Wrote (L.Medium.model log.old) (place_of (number_of (slice_index_or (waiting_of waiting.now) i (replicate 256 0)))) (slice_index_or (waiting_of waiting.now) i (replicate 256 0)) (refusal result) (L.Medium.model log.new) }
 {
     let mut block = [0u8; BLOCK];
     let _ = waiting.copy(i, &mut block);
@@ -30,7 +30,7 @@ fn write_record<L: Medium>(log: &mut L, waiting: &Waiting, i: usize) -> Result<(
 
 // Writes the records that wait, in order, up to the first write that is refused; says how many were written before it.
 fn write_records<L: Medium>(log: &mut L, waiting: &Waiting) -> (usize, Result<(), Fault>)
-    ensures { Logged (L.Medium.model log.old) (waitingOf waiting.now) (refusal result.1) (L.Medium.model log.new) (drop result.0 (waitingOf waiting.now)) }
+    ensures { Logged (L.Medium.model log.old) (waiting_of waiting.now) (refusal result.1) (L.Medium.model log.new) (drop result.0 (waiting_of waiting.now)) }
 {
     let n = waiting.len();
     for i in 0..n {

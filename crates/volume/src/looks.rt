@@ -1,8 +1,8 @@
 // Calls that change nothing, and stop.
 ghost use Rattle.std.specs.Prelude.{◌≡◌, length, IfOk};
 ghost use Rattle.faults.specs.Faults.{refusal};
-ghost use Rattle.tables.specs.Waiting.{waiting as waitingOf};
-ghost use Rattle.tables.specs.DirtyOps.{dirty as dirtyOf};
+ghost use Rattle.tables.specs.Waiting.{waiting as waiting_of};
+ghost use Rattle.tables.specs.DirtyOps.{dirty as dirty_of};
 ghost use Rattle.volume.specs.Working.{image_at};
 ghost use Rattle.volume.specs.Models.{up_model};
 ghost use Rattle.volume.specs.Volumes.{page_fault, filled_with, group_fault, Told};
@@ -37,7 +37,7 @@ impl<K: Kind, L: Medium, S: PageStore> Up<K, L, S> {
     // A page's group, and the set of all pages in groups directly before it; both empty if the page is clean.
     pub fn group(&self, page: u32) -> Result<(u64, u64), Fault>
         ensures answer { refusal result ≡ group_fault (up_model L.Medium.model S.PageStore.meaning S.PageStore.plan self.now) page }
-        ensures told { IfOk result (Told (dirtyOf self.now.dirty) page) }
+        ensures told { IfOk result (Told (dirty_of self.now.dirty) page) }
     {
         if let Status::Halted(fault) = self.status {
             return Err(fault);
@@ -53,7 +53,7 @@ impl<K: Kind, L: Medium, S: PageStore> Up<K, L, S> {
     pub fn stop(self) -> (Down<K, L, S>, usize)
         ensures log { result.0.log ≡ self.log }
         ensures store { result.0.store ≡ self.store }
-        ensures dropped { result.1 ≡ length (waitingOf self.waiting) }
+        ensures dropped { result.1 ≡ length (waiting_of self.waiting) }
     {
         let Up {
             log,

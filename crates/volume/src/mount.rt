@@ -1,6 +1,6 @@
 // Mount: a down volume comes up.
 ghost use Rattle.std.specs.Prelude.{◌≡◌, length};
-ghost use Rattle.tables.specs.DirtyOps.{dirty as dirtyOf};
+ghost use Rattle.tables.specs.DirtyOps.{dirty as dirty_of};
 ghost use Rattle.volume.specs.Volumes.{Ends};
 ghost use Rattle.volume.specs.Statuses.{halted_by};
 ghost use Rattle.volume.specs.Models.{up_model, down_model};
@@ -44,7 +44,7 @@ impl<K: Kind, L: Medium, S: PageStore> Down<K, L, S> {
     // written. Refused, the up volume is halted with that fault, its pages are blank and the count is 0.
     pub fn mount(self) -> (Up<K, L, S>, u32)
         ensures up { up_model L.Medium.model S.PageStore.meaning S.PageStore.plan result.0 ≡ mounted K.Kind.meaning (down_model L.Medium.model S.PageStore.meaning S.PageStore.plan self) }
-        ensures count { result.1 ≡ length (dirtyOf result.0.dirty) }
+        ensures count { result.1 ≡ length (dirty_of result.0.dirty) }
         ensures recovers { MountRecovers K.Kind.meaning (down_model L.Medium.model S.PageStore.meaning S.PageStore.plan self) }
     {
         let Down {

@@ -6,7 +6,7 @@ ghost use Rattle.sets.specs.Sets.{has};
 ghost use Rattle.logblocks.specs.Blocks.{entry_of};
 ghost use Rattle.logblocks.specs.Views.{view};
 ghost use Rattle.redo.specs.Recovery.{every};
-ghost use Rattle.tables.specs.DirtyOps.{dirty as dirtyOf};
+ghost use Rattle.tables.specs.DirtyOps.{dirty as dirty_of};
 ghost use Rattle.volume.specs.Working.{image_at, number_of};
 ghost use Rattle.volume.specs.LogReading.{record_block, record_fault};
 ghost use Rattle.volume.specs.Performing.{outcome};
@@ -99,7 +99,7 @@ fn redo_missing<K: Kind>(
     logged: Record,
 ) -> Result<(), Fault>
     requires scoped { K.Kind.meaning.scope logged.body.now ≡ Ok (logged.reads, logged.writes) }
-    requires room { length (dirtyOf dirty.old) < 128 }
+    requires room { length (dirty_of dirty.old) < 128 }
     ensures { comes_to result (redone_in pages.new dirty.new) ≡ redone_by n (view logged.entry) (outcome K.Kind.meaning (view logged.entry).body logged.entry.reads (image_at pages.old.images)) (redone_in pages.old dirty.old) }
 {
     match perform::<K>(pages, logged.body, logged.reads, logged.writes, n) {
@@ -123,7 +123,7 @@ fn redo_uninstalled<K: Kind>(
     logged: Record,
 ) -> Result<(), Fault>
     requires scoped { K.Kind.meaning.scope logged.body.now ≡ Ok (logged.reads, logged.writes) }
-    requires room { length (dirtyOf dirty.old) < 128 }
+    requires room { length (dirty_of dirty.old) < 128 }
     ensures { comes_to result (redone_in pages.new dirty.new) ≡ redo_uninstalled K.Kind.meaning n (view logged.entry) (redone_in pages.old dirty.old) }
 {
     if !is_missing(pages, logged.writes, n) {
@@ -140,7 +140,7 @@ fn redo_record<K: Kind>(
     block: &[u8],
 ) -> Result<(), Fault>
     requires faultless { record_fault K.Kind.meaning n block.now ≡ None }
-    requires room { length (dirtyOf dirty.old) < 128 }
+    requires room { length (dirty_of dirty.old) < 128 }
     ensures { comes_to result (redone_in pages.new dirty.new) ≡ record_redone K.Kind.meaning n (entry_of block.now) (redone_in pages.old dirty.old) }
 {
     let Some(logged) = Record::parse(block) else {
@@ -161,7 +161,7 @@ fn redo_logged<K: Kind, L: Medium>(
 ) -> Result<(), Fault>
     requires there { 129 ≤ block_count (L.Medium.model log.now) }
     requires faultless { record_fault K.Kind.meaning n (record_block (L.Medium.model log.now) n) ≡ None }
-    requires room { length (dirtyOf dirty.old) < 128 }
+    requires room { length (dirty_of dirty.old) < 128 }
     ensures { comes_to result (redone_in pages.new dirty.new) ≡ record_redone K.Kind.meaning n (entry_at (L.Medium.model log.now) n) (redone_in pages.old dirty.old) }
 {
     let mut block = [0u8; BLOCK];
@@ -180,7 +180,7 @@ pub(crate) fn redo_records<K: Kind, L: Medium>(
     requires there { 129 ≤ block_count (L.Medium.model log.now) }
     requires few { next - first ≤ 128 }
     requires faultless { None ≡ records_fault K.Kind.meaning (L.Medium.model log.now) first (next - first) }
-    requires none { dirtyOf dirty.old ≡ [] }
+    requires none { dirty_of dirty.old ≡ [] }
     ensures { comes_to result (redone_in pages.new dirty.new) ≡ records_redone K.Kind.meaning (L.Medium.model log.now) first (next - first) (redone_in pages.old dirty.old) }
 {
     for i in 0..next.saturating_sub(first) {
