@@ -1,11 +1,11 @@
 // Every way in which a call of the engine can be turned down.
 ghost use Rattle.std.specs.Prelude.{◌≡◌, ◌↔◌, IsTrue, Some};
-ghost use Rattle.faults.specs.Faults.{report, same_report, same_report_laws, text};
+ghost use Rattle.faults.specs.Faults.{report, same_report, text};
 
 use std::fmt;
 
 // One case for each cause, with what it returns.
-#[derive(Clone, Copy, Debug)]
+#[derive(Clone, Copy, PartialEq, Eq, Debug)]
 pub enum Fault {
     // a page above 63
     NoSuchPage(u32),
@@ -123,21 +123,13 @@ impl Fault {
             _ => 0,
         }
     }
-}
 
-// Two faults are equal where they report the same.
-impl PartialEq for Fault {
-    ghost eq = { λ f g. same_report (report f) (report g) };
-
-    ghost laws = { same_report_laws };
-
-    fn eq(&self, other: &Fault) -> bool
-        ensures tests { result ≡ same_report (report self.now) (report other.now) }
-        ensures equal { IsTrue result ↔ (report self.now ≡ report other.now) }
+    // Two faults are equal exactly where they report the same.
+    pub fn same(self, other: Fault) -> bool
+        ensures tests { result ≡ same_report (report self) (report other) }
+        ensures equal { IsTrue result ↔ (report self ≡ report other) }
     {
-        self.number() == other.number()
-            && self.place() == other.place()
-            && self.code() == other.code()
+        self == other
     }
 }
 

@@ -4,6 +4,8 @@ use mathlib.Core.Path.{fun_ext}
 use Rattle.std.specs.List.{AllByRecursion}
 use Rattle.std.proofs.lemmas.List.{length-append}
 use Rattle.std.proofs.ByRecursion.{All-append, All-weaker}
+use Rattle.std.specs.Bool.{then_some}
+use borrow.Author.Tests.{ltb-true, ltb-false}
 use lib.Bits.{bit_and, bit_or, bit_xor, and_le_l, and_shr, or_shr, xor_shr, and_mod, or_mod, xor_mod}
 use lib.Count.{ones, ones_step, count_trailing_zeros, under}
 use lib.Dec.{eqb-zero-suc, eqb-suc-zero, eqb-suc-suc}
@@ -329,17 +331,20 @@ above-gap s p q l h =
     let e : p + (q - p) ≡ q = omega arith in
     ap (has s) (sym e) ∙ sym (has-shifted s p (q - p)) ∙ first-least (has (s / 2 ^ p)) 0 64 (q - p) (omega arith) h
 
-pub next-none : (s p : ℕ) → s < 2 ^ 64 → 64 ≤ p → NextPage s p 64
-next-none s p small l = record { none_between = λ q a b. absurd (omega arith); found = inl refl }
+-- none lies past the last page, or where nothing is left of the set; else it is as far above p as the rest has low zeros
+pub next-page : (s p rest : ℕ) → rest ≡ s / 2 ^ p → NextPage s p (then_some (ltb (count_trailing_zeros 64 rest) 64) (p + count_trailing_zeros 64 rest))
+next-page s p rest e = rw e (go (ltb (count_trailing_zeros 64 (s / 2 ^ p)) 64) refl)
+  where
+    t : count_trailing_zeros 64 (s / 2 ^ p) ≡ first (has (s / 2 ^ p)) 0 64
+    t = trailing_first 64 (s / 2 ^ p)
 
-pub next_past : (s p : ℕ) → s < 2 ^ 64 → p < 64 → 64 ≤ count_trailing_zeros 64 (s / 2 ^ p) → NextPage s p 64
-next_past s p small l h = record { none_between = λ q a b. above-gap s p q a (omega (arith, trailing_first 64 (s / 2 ^ p))); found = inl refl }
-
-pub next-found : (s p : ℕ) → s < 2 ^ 64 → p < 64 → count_trailing_zeros 64 (s / 2 ^ p) < 64 → NextPage s p (p + count_trailing_zeros 64 (s / 2 ^ p))
-next-found s p small l h =
-    let t = trailing_first 64 (s / 2 ^ p) in
-    let hit = first-hit (has (s / 2 ^ p)) 0 64 (omega arith) in
-    record {
-      none_between = λ q a b. above-gap s p q a (omega arith);
-      found = inr (omega arith, sym (has-shifted s p (count_trailing_zeros 64 (s / 2 ^ p))) ∙ ap (has (s / 2 ^ p)) t ∙ hit);
-    }
+    go : (b : Bool) → ltb (count_trailing_zeros 64 (s / 2 ^ p)) 64 ≡ b → NextPage s p (then_some b (p + count_trailing_zeros 64 (s / 2 ^ p)))
+    go true h =
+        let below : count_trailing_zeros 64 (s / 2 ^ p) < 64 = omega (arith, ltb-true, h) in
+        let hit = first-hit (has (s / 2 ^ p)) 0 64 (omega (arith, t)) in
+        record {
+          from = omega arith;
+          found = sym (has-shifted s p (count_trailing_zeros 64 (s / 2 ^ p))) ∙ ap (has (s / 2 ^ p)) t ∙ hit;
+          none_between = λ q a b. above-gap s p q a (omega (arith, t));
+        }
+    go false h = λ q a b. above-gap s p q a (let over : 64 ≤ count_trailing_zeros 64 (s / 2 ^ p) = omega (arith, ltb-false, h) in omega (arith, t))

@@ -1,5 +1,5 @@
 -- Sets of pages. A set is a number: page p is in it when bit p of the number is 1.
-use Rattle.std.specs.Prelude.{◌≡◌, ℕ, zero, suc, ◌+◌, ◌/◌, ◌%◌, ◌^◌, ◌<◌, ◌≤◌, Bool, true, false, cond, not, ◌⊎◌, List, [], ◌∷◌, ◌++◌, ◌==◌}
+use Rattle.std.specs.Prelude.{◌≡◌, ℕ, zero, suc, ◌+◌, ◌/◌, ◌%◌, ◌^◌, ◌<◌, ◌≤◌, Bool, true, false, cond, not, List, [], ◌∷◌, ◌++◌, ◌==◌, Option, Some, None}
 
 -- whether page p is in the set s
 unfoldable pub has : ℕ → ℕ → Bool
@@ -45,7 +45,13 @@ lowest s = first (has s) 0 64
 abbrev pub pages : ℕ → List ℕ
 pages s = rising (has s) 64
 
--- r is the lowest page of s from page p on, or 64 where there is none
-pub record NextPage (s p r : ℕ) : Type 0 where
+-- r is the lowest page of s from page p on
+pub record LowestFrom (s p r : ℕ) : Type 0 where
+  pub from : p ≤ r
+  pub found : has s r ≡ true
   pub none_between : (q : ℕ) → p ≤ q → q < r → has s q ≡ false
-  pub found : (r ≡ 64) ⊎ ((p ≤ r) × (has s r ≡ true))
+
+-- the lowest page of s from page p on, or that there is none
+abbrev pub NextPage : ℕ → ℕ → Option ℕ → Type 0
+NextPage s p (Some r) = LowestFrom s p r
+NextPage s p None = (q : ℕ) → p ≤ q → q < 64 → has s q ≡ false

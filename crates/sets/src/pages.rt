@@ -67,23 +67,17 @@ pub fn size(s: u64) -> u32
 }
 
 // The lowest page of s; 64 where s is empty.
+// Kept: 64 in place of an Option: a set is a 64-bit number, and its lowest page the count of its trailing zeros.
 pub fn lowest(s: u64) -> u32
     ensures { result ≡ lowest_of s }
 {
     s.trailing_zeros()
 }
 
-// The lowest page of s from page p on; 64 where there is none. From 0 on, and each time one further, this goes through the
-// pages of s, rising.
-pub fn next_page(s: u64, p: u32) -> u32
+// The lowest page of s from page p on. From 0 on, and each time from one past it, this goes through the pages of s, rising.
+pub fn next_page(s: u64, p: u32) -> Option<u32>
     ensures { NextPage s p result }
 {
-    if p >= 64 {
-        return 64;
-    }
-    let above = (s >> p).trailing_zeros();
-    if above >= 64 {
-        return 64;
-    }
-    p + above
+    let above = s.checked_shr(p)?.trailing_zeros();
+    (above < 64).then_some(p + above)
 }

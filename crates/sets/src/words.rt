@@ -2,6 +2,49 @@
 ghost use Rattle.std.specs.Prelude.{◌≡◌, ℕ, ◌-◌, min, length};
 ghost use Rattle.sets.specs.Words.{number, bytes_of, part, over};
 
+// A number that takes `width` bytes.
+pub trait Number: Copy {
+    ghost width: { ℕ };
+
+    ghost value: { Self → ℕ };
+
+    // The number in the bytes from place `at` on.
+    fn read_at(bytes: &[u8], at: usize) -> Self
+        ensures { value result ≡ number (part at width bytes.now) };
+
+    // Writes the number into the bytes from place `at` on.
+    fn write_at(self, bytes: &mut [u8], at: usize)
+        ensures { bytes.new ≡ over at (bytes_of width (value self)) bytes.old };
+}
+
+impl Number for u32 {
+    ghost width = { 4 };
+
+    ghost value = { λ n. n };
+
+    fn read_at(bytes: &[u8], at: usize) -> u32 {
+        u32::from_le_bytes(bytes_at(bytes, at))
+    }
+
+    fn write_at(self, bytes: &mut [u8], at: usize) {
+        put(bytes, at, &u32::to_le_bytes(self));
+    }
+}
+
+impl Number for u64 {
+    ghost width = { 8 };
+
+    ghost value = { λ n. n };
+
+    fn read_at(bytes: &[u8], at: usize) -> u64 {
+        u64::from_le_bytes(bytes_at(bytes, at))
+    }
+
+    fn write_at(self, bytes: &mut [u8], at: usize) {
+        put(bytes, at, &u64::to_le_bytes(self));
+    }
+}
+
 // How many of the k bytes from place `at` on lie in a slice of `len` bytes.
 fn room(len: usize, at: usize, k: usize) -> usize
     ensures { result ≡ min k (len - at) }
@@ -9,42 +52,16 @@ fn room(len: usize, at: usize, k: usize) -> usize
     k.min(len.saturating_sub(at))
 }
 
-// The four bytes from place `at` on as a number.
-pub fn u32_at(bytes: &[u8], at: usize) -> u32
-    ensures { result ≡ number (part at 4 bytes.now) }
+// The N bytes from place `at` on, with zeros for those past the slice's end.
+fn bytes_at<const N: usize>(bytes: &[u8], at: usize) -> [u8; N]
+    ensures { number result ≡ number (part at N bytes.now) }
 {
     let from = at.min(bytes.len());
-    let n = room(bytes.len(), at, 4);
-    let mut word = [0u8; 4];
-    word[0..n].copy_from_slice(&bytes[from..from + n]);
-    u32::from_le_bytes(word)
-}
-
-// The eight bytes from place `at` on as a number.
-pub fn u64_at(bytes: &[u8], at: usize) -> u64
-    ensures { result ≡ number (part at 8 bytes.now) }
-{
-    let from = at.min(bytes.len());
-    let n = room(bytes.len(), at, 8);
-    let mut word = [0u8; 8];
-    word[0..n].copy_from_slice(&bytes[from..from + n]);
-    u64::from_le_bytes(word)
-}
-
-// Writes a number into the four bytes from place `at` on.
-pub fn put_u32(bytes: &mut [u8], at: usize, n: u32)
-    ensures { bytes.new ≡ over at (bytes_of 4 n) bytes.old }
-{
-    let word = n.to_le_bytes();
-    put(bytes, at, &word);
-}
-
-// Writes a number into the eight bytes from place `at` on.
-pub fn put_u64(bytes: &mut [u8], at: usize, long: u64)
-    ensures { bytes.new ≡ over at (bytes_of 8 long) bytes.old }
-{
-    let word = long.to_le_bytes();
-    put(bytes, at, &word);
+    let n = room(bytes.len(), at, N);
+    let mut word = [0u8; N];
+    let whole = &mut word[..];
+    whole[0..n].copy_from_slice(&bytes[from..from + n]);
+    word
 }
 
 // Writes a word's bytes from place `at` on.
