@@ -10,35 +10,28 @@ use Rattle.graph.specs.declared.op.Op.{Op}
 use Rattle.graph.specs.Ops.{nothing, dirty_ops, Pages}
 use Rattle.graph.specs.Rows.{row, leads, SomeBelow, mutual_reach, LeadsGroup}
 
--- an operation of the list writes page b
-abbrev pub Written : List Op → ℕ → ℕ → Type 0
-Written ops b i = has (get_or ops i nothing).writes b ≡ true
-
-pub written-dirty : (ops : List Op) (k s : ℕ) → k ≡ length ops → Pages s (λ b. SomeBelow k (Written ops b)) → Pages s (Dirty (dirty_ops ops))
-written-dirty ops k s all pages q = (
-  λ e. let x = (pages q).0 e in let l = x.1 in (x.0, lt-ltb x.0 (length ops) (omega arith), x.2),
-  λ x. let l = ltb-true x.0 (length ops) x.1 in (pages q).1 (x.0, omega arith, x.2),
+pub written-dirty : (ops : List Op) (s : ℕ) → Pages s (λ b. SomeBelow (length ops) (λ i. has (get_or ops i nothing).writes b ≡ true)) → Pages s (Dirty (dirty_ops ops))
+written-dirty ops s pages q = (
+  λ e. let x = (pages q).0 e in (x.0, lt-ltb x.0 (length ops) x.1, x.2),
+  λ x. (pages q).1 (x.0, ltb-true x.0 (length ops) x.1, x.2),
 )
 
 -- a table has no rows past the last page
 pub row-past : (rows : List ℕ) (a b : ℕ) → length rows ≡ 64 → 64 ≤ a → leads rows a b ≡ false
 row-past rows a b n l = ap (λ s. has s b) (get_or_past rows a 0 (omega arith)) ∙ has-none b
 
+pub row-within : (rows : List ℕ) (a b : ℕ) → length rows ≡ 64 → leads rows a b ≡ true → a < 64
+row-within rows a b n e = elim (cases_lt a 64) [ inl l ↦ l | inr g ↦ absurd (both_ways (leads rows a b) (row-past rows a b n g) e) ]
+
 -- rows that meet a set
 abbrev pub Source : List ℕ → ℕ → ℕ → ℕ → Type 0
 Source rows set q p = (q ≡ p) × Meet (row rows p) set
 
-pub sources_all : (rows : List ℕ) (set k s : ℕ) → length rows ≡ 64 → k ≡ 64 → Pages s (λ q. SomeBelow k (Source rows set q)) → Pages s (λ q. Meet (row rows q) set)
-sources_all rows set k s n all pages q = (sound, complete)
-  where
-    sound : has s q ≡ true → Meet (row rows q) set
-    sound e = let x = (pages q).0 e in subst (λ (p : ℕ). Meet (row rows p) set) (sym x.2.0) x.2.1
-
-    complete : Meet (row rows q) set → has s q ≡ true
-    complete m = elim (cases_lt q 64) [
-      | inl l ↦ (pages q).1 (q, omega arith, (refl, m))
-      | inr g ↦ absurd (both_ways (leads rows q m.0) (row-past rows q m.0 n g) m.1)
-    ]
+pub sources_all : (rows : List ℕ) (set s : ℕ) → length rows ≡ 64 → Pages s (λ q. SomeBelow 64 (Source rows set q)) → Pages s (λ q. Meet (row rows q) set)
+sources_all rows set s n pages q = (
+  λ e. let x = (pages q).0 e in subst (λ (p : ℕ). Meet (row rows p) set) (sym x.2.0) x.2.1,
+  λ m. (pages q).1 (q, row-within rows q m.0 n m.1, (refl, m)),
+)
 
 -- the group of a page, by a table of what reaches what
 pub group-pages : (reach : List ℕ) (page here one into r : ℕ) → length reach ≡ 64 → here ≡ row reach page → SetOf one (λ q. eqb q page && ltb page 64)
@@ -69,3 +62,6 @@ leads-lowest reach g p is-group l leads =
     let le = low.0 in
     let ge = leads.1 (lowest g) (omega arith) (sym (is-group (lowest g)) ∙ low.1) in
     omega arith
+
+pub leads-within : (reach : List ℕ) (p : ℕ) → length reach ≡ 64 → LeadsGroup reach p → p < 64
+leads-within reach p n is = row-within reach p p n (and_parts (leads reach p p) (leads reach p p) is.0).0

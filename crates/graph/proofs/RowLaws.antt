@@ -1,6 +1,16 @@
--- Loops that gather pages, and loops that renew a table row by row.
-use Rattle.std.proofs.Common.{◌≡◌, ℕ, ◌+◌, ◌^◌, ◌<◌, ◌≤◌, Bool, true, ◌&&◌, ◌||◌, eqb, ltb, ◌⊎◌, List, length, get_or, set, sym, refl, ap, ◌∙◌, subst, inl, inr, arith, length-set, get_or-set_other, get_or-set_same}
-use Rattle.std.proofs.lemmas.Bool.{both_ways, cases_Bool, cases_eq, or_cases, or_left, or_right, and_parts, and_from, eqb-true, eq-eqb, lt-ltb}
+-- Folds that gather pages, and loops that renew a table row by row.
+use Rattle.std.proofs.Common.{◌≡◌, ℕ, ◌+◌, ◌^◌, ◌<◌, ◌≤◌, Bool, true, ◌&&◌, ◌||◌, eqb, ltb, ◌⊎◌, List, [], ◌∷◌, ◌++◌, Option, zero-add, length, get_or, set, sym, refl, ap, ◌∙◌, subst, inl, inr, arith, length-set, get_or-set_other, get_or-set_same}
+use denote.Param.Members.{Mut}
+use Rattle.std.specs.Fn.{Called}
+use Rattle.std.specs.Iterator.{Drains}
+use Rattle.std.specs.List.{FoldsTo, range_with_len}
+use Rattle.std.proofs.Math.ListN.{get_or-append}
+use Rattle.std.proofs.Math.Seq.{get_or-append_seam}
+use Rattle.std.proofs.lemmas.Fn.{fold_over}
+use Rattle.std.proofs.lemmas.Iterator.{YieldsList}
+use Rattle.std.proofs.lemmas.List.{length-append}
+use Rattle.std.proofs.lemmas.List.FromFn.{get_or-range_with_len, length-range_with_len}
+use Rattle.std.proofs.lemmas.Bool.{both_ways, cases_Bool, cases_eq, cases_lt, or_cases, or_left, or_right, and_parts, and_from, eqb-true, eq-eqb, lt-ltb, ltb-true}
 use Rattle.sets.specs.Sets.{has, SetOf}
 use Rattle.sets.proofs.SetLaws.{has-none, none_only}
 use Rattle.graph.specs.Ops.{Pages}
@@ -10,25 +20,53 @@ use Rattle.graph.specs.Rows.{row, leads, SomeBelow}
 pub pages-none : (P : ℕ → Type 0) → ((q : ℕ) → P q → ⊥) → Pages 0 P
 pages-none P never q = (λ e. absurd (both_ways (has 0 q) (has-none q) e), λ x. absurd (never q x))
 
--- gathering: nothing at first, and one more set
-pub gather_none : (P : ℕ → ℕ → Type 0) → Pages 0 (λ b. SomeBelow 0 (P b))
-gather_none P = pages-none (λ b. SomeBelow 0 (P b)) (λ q x. let l = x.1 in omega arith)
+-- s has the pages that some item of a list gives: page b comes with item x where P b x
+abbrev pub Gathered : {B : Type 0} → B → (ℕ → B → Type 0) → List B → ℕ → Type 0
+Gathered d P xs s = Pages s (λ b. SomeBelow (length xs) (λ i. P b (get_or xs i d)))
 
-pub gather-more : (P : ℕ → ℕ → Type 0) (k s t r : ℕ) → Pages s (λ b. SomeBelow k (P b)) → Pages t (λ b. P b k) → SetOf r (λ b. has s b || has t b)
-    → Pages r (λ b. SomeBelow (k + 1) (P b))
-gather-more P k s t r old new union b = (sound, complete)
+-- one more item, and the pages that it gives
+gather-more : {B : Type 0} (d : B) (P : ℕ → B → Type 0) (xs : List B) (x : B) (s t r : ℕ) → Gathered d P xs s → Pages t (λ b. P b x) → SetOf r (λ b. has s b || has t b)
+    → Gathered d P (xs ++ x ∷ []) r
+gather-more {B} d P xs x s t r old new union b = (sound, complete)
   where
-    sound : has r b ≡ true → SomeBelow (k + 1) (P b)
+    n : length (xs ++ x ∷ []) ≡ length xs + 1
+    n = length-append xs (x ∷ [])
+
+    sound : has r b ≡ true → SomeBelow (length (xs ++ x ∷ [])) (λ i. P b (get_or (xs ++ x ∷ []) i d))
     sound e = elim (or_cases (has s b) (has t b) (sym (union b) ∙ e)) [
-      | inl x ↦ let i = (old b).0 x in (i.0, omega (arith, i.1), i.2)
-      | inr x ↦ (k, omega arith, (new b).0 x)
+      | inl y ↦ let i = (old b).0 y in (i.0, omega (arith, i.1, n), subst (λ (z : B). P b z) (sym (get_or-append xs (x ∷ []) d i.0 i.1)) i.2)
+      | inr y ↦ (length xs, omega (arith, n), subst (λ (z : B). P b z) (sym (get_or-append_seam xs x [] d)) ((new b).0 y))
     ]
 
-    complete : SomeBelow (k + 1) (P b) → has r b ≡ true
-    complete x = elim (cases_eq x.0 k) [
-      | inl same ↦ union b ∙ or_right (has s b) (has t b) ((new b).1 (rw same at x.2))
-      | inr other ↦ union b ∙ or_left (has s b) (has t b) ((old b).1 (x.0, omega (arith, x.1), x.2))
+    complete : SomeBelow (length (xs ++ x ∷ [])) (λ i. P b (get_or (xs ++ x ∷ []) i d)) → has r b ≡ true
+    complete (i, l, h) = elim (cases_lt i (length xs)) [
+      | inl below ↦ union b ∙ or_left (has s b) (has t b) ((old b).1 (i, below, subst (λ (z : B). P b z) (get_or-append xs (x ∷ []) d i below) h))
+      | inr past ↦
+          let last : i ≡ length xs = omega (arith, l, n) in
+          union b ∙ or_right (has s b) (has t b) ((new b).1 (subst (λ (z : B). P b z) (ap (λ j. get_or (xs ++ x ∷ []) j d) last ∙ get_or-append_seam xs x [] d) h))
     ]
+
+-- a fold that adds the pages that each item gives
+pub gathered : {S A B F : Type 0} (steps : S → Option A → S → Type 0) (v : A → B) (g : Mut F (ℕ × (A × Unit {0})) ℕ) (f : F) (d : B) (P : ℕ → B → Type 0)
+    → ((s : ℕ) (x : A) (r : ℕ) (f' : F) → Called g f (s, (x, tt)) r f' → ((t : ℕ) × Pages t (λ b. P b (v x)) × SetOf r (λ b. has s b || has t b)) × (f' ≡ f))
+    → (s : S) (all : List B) (r : ℕ) → YieldsList steps v s all
+    → (xs : List A) × (f' : F) × Drains steps s xs × FoldsTo {P = F × ℕ} (λ p x q. Called g p.0 (p.1, (x, tt)) q.1 q.0) (f, 0) xs (f', r)
+    → Gathered d P all r
+gathered {S} {A} {B} {F} steps v g f d P one s all r from ran = fold_over steps v g (Gathered d P) f more s all 0 r from.runs none ran
+  where
+    none : Gathered d P [] 0
+    none = pages-none (λ b. SomeBelow 0 (λ i. P b (get_or [] i d))) (λ q x. let l = x.1 in omega arith)
+
+    more : (ys : List B) (a : ℕ) (x : A) (b : ℕ) (f' : F) → Gathered d P ys a → Called g f (a, (x, tt)) b f' → Gathered d P (ys ++ (v x ∷ [])) b × (f' ≡ f)
+    more ys a x b f' old call = let o = one a x b f' call in (gather-more d P ys (v x) a o.0.0 b old o.0.1 o.0.2, o.1)
+
+-- the same over the pages
+pub gathered-pages : (n : ℕ) (P : ℕ → ℕ → Type 0) (s : ℕ) → Gathered 0 P (range_with_len 0 n) s → Pages s (λ b. SomeBelow n (P b))
+gathered-pages n P s old b = (
+  λ e. let i = (old b).0 e in
+      let l : i.0 < n = omega (arith, i.1, length-range_with_len 0 n) in (i.0, l, subst (λ (z : ℕ). P b z) (get_or-range_with_len 0 n i.0 0 l ∙ zero-add i.0) i.2),
+  λ i. (old b).1 (i.0, omega (arith, i.1, length-range_with_len 0 n), subst (λ (z : ℕ). P b z) (sym (get_or-range_with_len 0 n i.0 0 i.1 ∙ zero-add i.0)) i.2),
+)
 
 -- a table in which the rows below i are as f says, and the others as they were
 pub record Renewed (f : ℕ → ℕ → Bool) (old : List ℕ) (i : ℕ) (new : List ℕ) : Type 0 where
@@ -54,14 +92,11 @@ renew-more f old i new x was l is = record {
         ∙ ap (λ k. f k b) (sym same)
     done_at a b le (inr other) = ap (λ s. has s b) (get_or-set_other new i a x 0 other) ∙ was.done a b (omega arith)
 
-pub gather-all : (P : ℕ → ℕ → Type 0) (k n s : ℕ) → k ≡ n → Pages s (λ b. SomeBelow k (P b)) → Pages s (λ b. SomeBelow n (P b))
-gather-all P k n s e all = subst (λ (j : ℕ). Pages s (λ b. SomeBelow j (P b))) e all
-
--- one page, if P holds
-pub page-if : (P : Type 0) (s p : ℕ) → SetOf s (λ q. eqb q p && ltb p 64) → p < 64 → P → Pages s (λ q. (q ≡ p) × P)
-page-if P s p is_one l x q = (
-  λ e. (eqb-true q p (and_parts (eqb q p) (ltb p 64) (sym (is_one q) ∙ e)).0, x),
-  λ y. is_one q ∙ and_from (eqb q p) (ltb p 64) (eq-eqb q p y.0) (lt-ltb p 64 l),
+-- one page, if P holds, which holds of none but the pages
+pub page_where : (P : Type 0) (s p : ℕ) → SetOf s (λ q. eqb q p && ltb p 64) → (p < 64 → P) → (P → p < 64) → Pages s (λ q. (q ≡ p) × P)
+page_where P s p is_one holds within q = (
+  λ e. let u = and_parts (eqb q p) (ltb p 64) (sym (is_one q) ∙ e) in (eqb-true q p u.0, holds (ltb-true p 64 u.1)),
+  λ y. is_one q ∙ and_from (eqb q p) (ltb p 64) (eq-eqb q p y.0) (lt-ltb p 64 (within y.1)),
 )
 
 -- where nothing holds of any page, the set is empty

@@ -25,11 +25,7 @@ fn hit(o: Op, p: Op) -> u64
 fn later(ops: &[Op], o: Op) -> u64
     ensures { Pages result (λ b. SomeBelow (length ops.now) (Hit ops.now o b)) }
 {
-    let mut pages = 0;
-    for p in ops {
-        pages = sets::union(pages, hit(o, *p));
-    }
-    pages
+    ops.iter().fold(0, |pages, p| sets::union(pages, hit(o, *p)))
 }
 
 // The pages that arrows lead to from each page that o writes.
@@ -54,8 +50,8 @@ pub fn grown(row: u64, a: u32, from: u64, to: u64) -> u64
 fn spread(rows: &mut [u64; 64], from: u64, to: u64)
     ensures { (a b : ℕ) → a < 64 → leads rows.new a b ≡ (leads rows.old a b || (has from a && has to b)) }
 {
-    for a in 0..64usize {
-        rows[a] = grown(rows[a], a as u32, from, to);
+    for (a, row) in rows.iter_mut().enumerate() {
+        *row = grown(*row, a as u32, from, to);
     }
 }
 

@@ -11,8 +11,8 @@ fn let_in(rows: &mut [u64; 64], k: u32)
     ensures { (a b : ℕ) → a < 64 → leads rows.new a b ≡ (leads rows.old a b || (leads rows.old a k && leads rows.old k b)) }
 {
     let through = rows[k as usize];
-    for a in 0..64usize {
-        rows[a] = grown(rows[a], k, rows[a], through);
+    for row in rows.iter_mut() {
+        *row = grown(*row, k, *row, through);
     }
 }
 

@@ -13,26 +13,18 @@ use crate::op::Op;
 pub fn dirty(ops: &[Op]) -> u64
     ensures { Pages result (Dirty (dirty_ops ops.now)) }
 {
-    let mut pages = 0;
-    for o in ops {
-        pages = sets::union(pages, o.writes);
-    }
-    pages
+    ops.iter().fold(0, |pages, o| sets::union(pages, o.writes))
 }
 
 // The row of a page; the empty set where there is no such page.
 fn row(rows: &[u64; 64], page: u32) -> u64
     ensures { result ≡ row_of rows.now page }
 {
-    if page >= 64 {
-        return 0;
-    }
-    rows[page as usize]
+    rows.get(page as usize).copied().unwrap_or(0)
 }
 
 // Page p, if its row meets the set.
 fn source(rows: &[u64; 64], set: u64, p: u32) -> u64
-    requires { p < 64 }
     ensures { Pages result (λ q. (q ≡ p) × Meet (row_of rows.now p) set) }
 {
     if sets::meet(row(rows, p), set) {
@@ -46,11 +38,7 @@ fn source(rows: &[u64; 64], set: u64, p: u32) -> u64
 fn sources(rows: &[u64; 64], set: u64) -> u64
     ensures { Pages result (λ q. Meet (row_of rows.now q) set) }
 {
-    let mut pages = 0;
-    for p in 0..64u32 {
-        pages = sets::union(pages, source(rows, set, p));
-    }
-    pages
+    (0..64).fold(0, |pages, p| sets::union(pages, source(rows, set, p)))
 }
 
 // The pages that a page reaches and that reach it.
@@ -77,16 +65,11 @@ fn group_if(reach: &[u64; 64], set: u64, p: u32) -> u64
 fn groups_of(reach: &[u64; 64], set: u64) -> u64
     ensures { Pages result (λ q. SomeBelow 64 (InGroupOf reach.now set q)) }
 {
-    let mut pages = 0;
-    for p in 0..64u32 {
-        pages = sets::union(pages, group_if(reach, set, p));
-    }
-    pages
+    (0..64).fold(0, |pages, p| sets::union(pages, group_if(reach, set, p)))
 }
 
 // Page p, if it is the lowest of its group.
 fn leader(reach: &[u64; 64], p: u32) -> u64
-    requires { p < 64 }
     ensures { Pages result (λ q. (q ≡ p) × LeadsGroup reach.now p) }
 {
     if sets::lowest(group_in(reach, p)) == p {
@@ -100,11 +83,7 @@ fn leader(reach: &[u64; 64], p: u32) -> u64
 fn leaders(reach: &[u64; 64]) -> u64
     ensures { Pages result (λ q. SomeBelow 64 (λ p. (q ≡ p) × LeadsGroup reach.now p)) }
 {
-    let mut pages = 0;
-    for p in 0..64u32 {
-        pages = sets::union(pages, leader(reach, p));
-    }
-    pages
+    (0..64).fold(0, |pages, p| sets::union(pages, leader(reach, p)))
 }
 
 // The group of a page: empty if the page is clean.

@@ -2,22 +2,16 @@
 ghost use Rattle.graph.specs.Listing.{ListedGraph, ListedRun, ListedInstall};
 
 // A list of the dirty operations of a history has its groups and their order.
-pub fn listed_graph() -> u8
+pub fn listed_graph()
     ensures { ListedGraph }
-{
-    0
-}
+{}
 
 // It stays such a list when an operation that runs is put at the end.
-pub fn listed_run() -> u8
+pub fn listed_run()
     ensures { ListedRun }
-{
-    0
-}
+{}
 
 // It stays such a list when a group is installed and what writes into it goes.
-pub fn listed_install() -> u8
+pub fn listed_install()
     ensures { ListedInstall }
-{
-    0
-}
+{}

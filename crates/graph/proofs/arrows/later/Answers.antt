@@ -1,16 +1,12 @@
-use Rattle.std.proofs.Common.{length, arith}
-use Rattle.graph.specs.Rows.{Hit}
-use Rattle.graph.proofs.RowLaws.{gather_none, gather-more, gather-all}
+use Rattle.std.proofs.Common.{◌≡◌, true, rules}
+use Rattle.std.proofs.lemmas.Iterator.{YieldsList-from_slice}
+use Rattle.sets.specs.Sets.{has}
+use Rattle.graph.specs.Ops.{nothing}
+use Rattle.graph.specs.Rows.{ReadsFirst}
+use Rattle.graph.proofs.RowLaws.{gathered}
 use Rattle.graph.proofs.arrows.later.Goals as goal
-
-pub loop-p-init : goal.loop-p-init
-loop-p-init c = gather_none (Hit c.args.ops.now c.args.o)
-
-pub loop-p-preserved : goal.loop-p-preserved
-loop-p-preserved c =
-    gather-more (Hit c.args.ops.now c.args.o) c.loop-p.p-index c.loop-p.pages c.hit.result c.union-pages.result
-    c.loop-p.invariant c.hit.ensures c.union-pages.ensures
 
 pub returns : goal.returns
 returns c =
-    gather-all (Hit c.args.ops.now c.args.o) c.loop-p.p-index (length c.args.ops.now) c.loop-p.pages (omega arith) c.loop-p.invariant
+    gathered _ _ _ _ nothing (λ b p. ReadsFirst c.args.o p × (has p.writes b ≡ true)) (λ s x r f' k. search rules)
+    c.iter.result c.args.ops.now c.fold.result (YieldsList-from_slice c.args.ops.now c.iter.ensures.rest) c.fold.ensures.ran

@@ -1,16 +1,13 @@
-use Rattle.std.proofs.Common.{get_or, arith}
+use Rattle.std.proofs.Common.{◌≡◌, true, rules}
+use Rattle.std.proofs.lemmas.Iterator.{YieldsList-from_slice}
+use Rattle.sets.specs.Sets.{has}
 use Rattle.graph.specs.Ops.{nothing}
-use Rattle.graph.proofs.RowLaws.{gather_none, gather-more}
-use Rattle.graph.proofs.GroupLaws.{Written, written-dirty}
+use Rattle.graph.proofs.RowLaws.{gathered}
+use Rattle.graph.proofs.GroupLaws.{written-dirty}
 use Rattle.graph.proofs.groups.dirty.Goals as goal
 
-pub loop-o-init : goal.loop-o-init
-loop-o-init c = gather_none (Written c.args.ops.now)
-
-pub loop-o-preserved : goal.loop-o-preserved
-loop-o-preserved c =
-    gather-more (Written c.args.ops.now) c.loop-o.o-index c.loop-o.pages (get_or c.args.ops.now c.loop-o.o-index nothing).writes c.union-pages.result
-    c.loop-o.invariant (λ q. (λ e. e, λ e. e)) c.union-pages.ensures
-
 pub returns : goal.returns
-returns c = written-dirty c.args.ops.now c.loop-o.o-index c.loop-o.pages (omega arith) c.loop-o.invariant
+returns c =
+    written-dirty c.args.ops.now c.fold.result
+    (gathered _ _ _ _ nothing (λ b o. has o.writes b ≡ true) (λ s x r f' k. ((x.now.writes, λ q. (λ e. e, λ e. e), search rules), search rules))
+    c.iter.result c.args.ops.now c.fold.result (YieldsList-from_slice c.args.ops.now c.iter.ensures.rest) c.fold.ensures.ran)

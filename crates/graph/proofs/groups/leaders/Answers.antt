@@ -1,15 +1,10 @@
-use Rattle.std.proofs.Common.{◌≡◌, arith}
+use Rattle.std.proofs.Common.{◌≡◌, refl, rules}
+use Rattle.std.proofs.lemmas.Iterator.{YieldsList-from_range}
 use Rattle.graph.specs.Rows.{LeadsGroup}
-use Rattle.graph.proofs.RowLaws.{gather_none, gather-more, gather-all}
+use Rattle.graph.proofs.RowLaws.{gathered, gathered-pages}
 use Rattle.graph.proofs.groups.leaders.Goals as goal
 
-pub loop-p-init : goal.loop-p-init
-loop-p-init c = gather_none (λ q i. (q ≡ i) × LeadsGroup c.args.reach.now i)
-
-pub loop-p-preserved : goal.loop-p-preserved
-loop-p-preserved c =
-    gather-more (λ q i. (q ≡ i) × LeadsGroup c.args.reach.now i) c.loop-p.p c.loop-p.pages c.leader.result c.union-pages.result
-    c.loop-p.invariant c.leader.ensures c.union-pages.ensures
-
 pub returns : goal.returns
-returns c = gather-all (λ q i. (q ≡ i) × LeadsGroup c.args.reach.now i) c.loop-p.p 64 c.loop-p.pages (omega arith) c.loop-p.invariant
+returns c =
+    gathered-pages 64 (λ q p. (q ≡ p) × LeadsGroup c.args.reach.now p) c.fold.result
+    (gathered _ _ _ _ 0 (λ q p. (q ≡ p) × LeadsGroup c.args.reach.now p) (λ s x r f' k. search rules) _ _ c.fold.result (YieldsList-from_range 0 64 64 refl refl) c.fold.ensures.ran)

@@ -1,15 +1,11 @@
-use Rattle.std.proofs.Common.{arith, rules}
-use Rattle.graph.proofs.RowLaws.{gather_none, gather-more}
+use Rattle.std.proofs.Common.{refl, rules}
+use Rattle.std.proofs.lemmas.Iterator.{YieldsList-from_range}
+use Rattle.graph.proofs.RowLaws.{gathered, gathered-pages}
 use Rattle.graph.proofs.GroupLaws.{Source, sources_all}
 use Rattle.graph.proofs.groups.sources.Goals as goal
 
-pub loop-p-init : goal.loop-p-init
-loop-p-init c = gather_none (Source c.args.rows.now c.args.set)
-
-pub loop-p-preserved : goal.loop-p-preserved
-loop-p-preserved c =
-    gather-more (Source c.args.rows.now c.args.set) c.loop-p.p c.loop-p.pages c.source.result c.union-pages.result
-    c.loop-p.invariant c.source.ensures c.union-pages.ensures
-
 pub returns : goal.returns
-returns c = sources_all c.args.rows.now c.args.set c.loop-p.p c.loop-p.pages (search rules) (omega arith) c.loop-p.invariant
+returns c =
+    sources_all c.args.rows.now c.args.set c.fold.result (search rules)
+    (gathered-pages 64 (Source c.args.rows.now c.args.set) c.fold.result
+    (gathered _ _ _ _ 0 (Source c.args.rows.now c.args.set) (λ s x r f' k. search rules) _ _ c.fold.result (YieldsList-from_range 0 64 64 refl refl) c.fold.ensures.ran))
