@@ -3,8 +3,8 @@
 ghost use Rattle.std.specs.Prelude.{◌<◌};
 
 use graph::Op;
-use std::io;
 use std::time::{Duration, Instant};
+use std::{array, io};
 
 // All pages in one group, or each page a group of its own and all others directly before page 63.
 #[derive(Clone, Copy)]
@@ -41,11 +41,11 @@ fn operation(shape: Shape, i: u32) -> Op {
 }
 
 fn operations(shape: Shape) -> [Op; 128] {
-    let mut ops = [operation(shape, 0); 128];
-    for i in 0..128u32 {
-        ops[i as usize] = operation(shape, i);
-    }
-    ops
+    array::from_fn(
+        |i: usize| -> Op
+            requires { i < 128 }
+        { operation(shape, i as u32) },
+    )
 }
 
 // Operation `round % 128` reads the pages that it writes as well, or no longer.
@@ -56,22 +56,15 @@ fn change(ops: &mut [Op; 128], round: u32) {
     ops[i] = o;
 }
 
-fn groups(shape: Shape, rounds: u32) -> u64 {
+// The pages in the answers of a call, over all rounds.
+fn pages_answered<F: Fn(&[Op]) -> u64>(shape: Shape, rounds: u32, call: F) -> u64
+    requires { F.IsAlwaysCallable call }
+{
     let mut ops = operations(shape);
     let mut pages = 0u64;
     for round in 0..rounds {
         change(&mut ops, round);
-        pages = pages.saturating_add(sets::size(graph::group(&ops, 63)) as u64);
-    }
-    pages
-}
-
-fn befores(shape: Shape, rounds: u32) -> u64 {
-    let mut ops = operations(shape);
-    let mut pages = 0u64;
-    for round in 0..rounds {
-        change(&mut ops, round);
-        pages = pages.saturating_add(sets::size(graph::before(&ops, 63)) as u64);
+        pages = pages.saturating_add(sets::size(call(&ops)) as u64);
     }
     pages
 }
@@ -87,15 +80,26 @@ fn line(rt: &HostRuntime, call: &str, rounds: u32, all: Duration, pages: u64) ->
     println!(rt; "{call}: {whole}.{rest} microseconds a call, {each} pages in an answer")
 }
 
+fn time<F: Fn(&[Op]) -> u64>(
+    rt: &HostRuntime,
+    name: &str,
+    shape: Shape,
+    rounds: u32,
+    call: F,
+) -> io::Result<()>
+    requires some { 0 < rounds }
+    requires callable { F.IsAlwaysCallable call }
+{
+    let start = Instant::now(rt)?;
+    let pages = pages_answered(shape, rounds, call);
+    line(rt, name, rounds, start.elapsed(rt)?, pages)
+}
+
 fn both_calls(rt: &HostRuntime, shape: Shape, rounds: u32) -> io::Result<()>
     requires { 0 < rounds }
 {
-    let start = Instant::now(rt)?;
-    let pages = groups(shape, rounds);
-    line(rt, "  group", rounds, start.elapsed(rt)?, pages)?;
-    let start = Instant::now(rt)?;
-    let pages = befores(shape, rounds);
-    line(rt, "  before", rounds, start.elapsed(rt)?, pages)
+    time(rt, "  group", shape, rounds, |ops| graph::group(ops, 63))?;
+    time(rt, "  before", shape, rounds, |ops| graph::before(ops, 63))
 }
 
 pub(crate) fn measure(rt: &HostRuntime, rounds: u32) -> io::Result<()>
