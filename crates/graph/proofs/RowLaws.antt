@@ -1,5 +1,5 @@
 -- Folds that gather pages, and loops that renew a table row by row.
-use Rattle.std.proofs.Common.{◌≡◌, ℕ, ◌+◌, ◌^◌, ◌<◌, ◌≤◌, Bool, true, ◌&&◌, ◌||◌, eqb, ltb, ◌⊎◌, List, [], ◌∷◌, ◌++◌, Option, zero-add, length, get_or, set, sym, refl, ap, ◌∙◌, subst, inl, inr, arith, length-set, get_or-set_other, get_or-set_same}
+use Rattle.std.proofs.Common.{◌≡◌, ℕ, ◌+◌, ◌^◌, ◌<◌, ◌≤◌, true, ◌&&◌, ◌||◌, eqb, ltb, ◌⊎◌, List, [], ◌∷◌, ◌++◌, Option, zero-add, length, get_or, set, sym, refl, ap, ◌∙◌, subst, inl, inr, arith, length-set, get_or-set_other, get_or-set_same}
 use denote.Param.Members.{Mut}
 use Rattle.std.specs.Fn.{Called}
 use Rattle.std.specs.Iterator.{Drains}
@@ -14,7 +14,7 @@ use Rattle.std.proofs.lemmas.Bool.{both_ways, cases_Bool, cases_eq, cases_lt, or
 use Rattle.sets.specs.Sets.{has, SetOf}
 use Rattle.sets.proofs.SetLaws.{has-none, none_only}
 use Rattle.graph.specs.Ops.{Pages}
-use Rattle.graph.specs.Rows.{row, leads, SomeBelow}
+use Rattle.graph.specs.Rows.{row, SomeBelow}
 
 -- the empty set has the pages of which nothing holds
 pub pages-none : (P : ℕ → Type 0) → ((q : ℕ) → P q → ⊥) → Pages 0 P
@@ -68,29 +68,28 @@ gathered-pages n P s old b = (
   λ i. (old b).1 (i.0, omega (arith, i.1, length-range_with_len 0 n), subst (λ (z : ℕ). P b z) (sym (get_or-range_with_len 0 n i.0 0 i.1 ∙ zero-add i.0)) i.2),
 )
 
--- a table in which the rows below i are as f says, and the others as they were
-pub record Renewed (f : ℕ → ℕ → Bool) (old : List ℕ) (i : ℕ) (new : List ℕ) : Type 0 where
+-- a table in which R holds of each row below i as it was and as it is, and the others are as they were
+pub record Renewed (R : ℕ → ℕ → ℕ → Type 0) (old : List ℕ) (i : ℕ) (new : List ℕ) : Type 0 where
   pub long : length new ≡ 64
-  pub done : (a b : ℕ) → a < i → leads new a b ≡ f a b
+  pub done : (a : ℕ) → a < i → R a (row old a) (row new a)
   pub left : (a : ℕ) → i ≤ a → row new a ≡ row old a
 
-pub renew-none : (f : ℕ → ℕ → Bool) (old : List ℕ) → length old ≡ 64 → Renewed f old 0 old
-renew-none f old l = record { long = l; done = λ a b h. absurd (omega arith); left = λ a h. refl }
+pub renew-none : (R : ℕ → ℕ → ℕ → Type 0) (old : List ℕ) → length old ≡ 64 → Renewed R old 0 old
+renew-none R old l = record { long = l; done = λ a h. absurd (omega arith); left = λ a h. refl }
 
-pub renew-more : (f : ℕ → ℕ → Bool) (old : List ℕ) (i : ℕ) (new : List ℕ) (x : ℕ) → Renewed f old i new → i < 64 → SetOf x (f i) → Renewed f old (i + 1) (set new i x)
-renew-more f old i new x was l is = record {
+pub renew-more : (R : ℕ → ℕ → ℕ → Type 0) (old : List ℕ) (i : ℕ) (new : List ℕ) (x : ℕ) → Renewed R old i new → i < 64 → R i (row new i) x → Renewed R old (i + 1) (set new i x)
+renew-more R old i new x was l is = record {
   long = length-set new i x ∙ was.long;
-  done = λ a b h. done_at a b (omega arith) (cases_eq a i);
+  done = λ a h. done_at a (omega arith) (cases_eq a i);
   left = λ a h. get_or-set_other new i a x 0 (λ e. omega arith) ∙ was.left a (omega arith);
 }
   where
-    done_at : (a b : ℕ) → a ≤ i → (a ≡ i) ⊎ (a ≡ i → ⊥) → leads (set new i x) a b ≡ f a b
-    done_at a b le (inl same) =
-        ap (λ k. has (get_or (set new i x) k 0) b) same
-        ∙ ap (λ s. has s b) (get_or-set_same new i x 0 (let n = was.long in omega arith))
-        ∙ is b
-        ∙ ap (λ k. f k b) (sym same)
-    done_at a b le (inr other) = ap (λ s. has s b) (get_or-set_other new i a x 0 other) ∙ was.done a b (omega arith)
+    done_at : (a : ℕ) → a ≤ i → (a ≡ i) ⊎ (a ≡ i → ⊥) → R a (row old a) (row (set new i x) a)
+    done_at a le (inl same) =
+        subst (λ (k : ℕ). R k (row old k) (row (set new i x) k)) (sym same)
+        (subst (λ (y : ℕ). R i (row old i) y) (sym (get_or-set_same new i x 0 (let n = was.long in omega arith)))
+        (subst (λ (y : ℕ). R i y x) (was.left i (omega arith)) is))
+    done_at a le (inr other) = subst (λ (y : ℕ). R a (row old a) y) (sym (get_or-set_other new i a x 0 other)) (was.done a (omega arith))
 
 -- one page, if P holds, which holds of none but the pages
 pub page_where : (P : Type 0) (s p : ℕ) → SetOf s (λ q. eqb q p && ltb p 64) → (p < 64 → P) → (P → p < 64) → Pages s (λ q. (q ≡ p) × P)

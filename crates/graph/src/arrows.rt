@@ -6,6 +6,7 @@ ghost use Rattle.graph.specs.Ops.{dirty_ops, Pages};
 ghost use Rattle.graph.specs.Rows.{leads, SomeBelow, ReadsFirst, Hit, Target};
 
 use crate::op::Op;
+use crate::rows::{grown, renew};
 
 // Whether o is earlier than p and reads a page that p writes.
 fn reads_before(o: Op, p: Op) -> bool
@@ -25,7 +26,8 @@ fn hit(o: Op, p: Op) -> u64
 fn later(ops: &[Op], o: Op) -> u64
     ensures { Pages result (λ b. SomeBelow (length ops.now) (Hit ops.now o b)) }
 {
-    ops.iter().fold(0, |pages, p| sets::union(pages, hit(o, *p)))
+    ops.iter()
+        .fold(0, |pages, p| sets::union(pages, hit(o, *p)))
 }
 
 // The pages that arrows lead to from each page that o writes.
@@ -35,24 +37,11 @@ fn targets(ops: &[Op], o: Op) -> u64
     sets::union(o.writes, later(ops, o))
 }
 
-// The row, with the pages of `to` if page a is in `from`.
-pub fn grown(row: u64, a: u32, from: u64, to: u64) -> u64
-    ensures { SetOf result (λ b. has row b || (has from a && has to b)) }
-{
-    if sets::contains(from, a) {
-        sets::union(row, to)
-    } else {
-        row
-    }
-}
-
 // Adds the arrows from each page of `from` to each page of `to`.
 fn spread(rows: &mut [u64; 64], from: u64, to: u64)
     ensures { (a b : ℕ) → a < 64 → leads rows.new a b ≡ (leads rows.old a b || (has from a && has to b)) }
 {
-    for (a, row) in rows.iter_mut().enumerate() {
-        *row = grown(*row, a as u32, from, to);
-    }
+    renew(rows, |a, row| grown(row, a, from, to));
 }
 
 // The arrows of dirty operations.

@@ -3,17 +3,14 @@ ghost use Rattle.std.specs.Prelude.{◌≡◌, ℕ, ◌<◌, ◌&&◌, ◌||◌}
 ghost use Rattle.redo.specs.Closure.{via, pages_below};
 ghost use Rattle.graph.specs.Rows.{leads};
 
-use crate::arrows::grown;
+use crate::rows::{grown, renew, row};
 
 // Lets page k in between.
 fn let_in(rows: &mut [u64; 64], k: u32)
-    requires { k < 64 }
     ensures { (a b : ℕ) → a < 64 → leads rows.new a b ≡ (leads rows.old a b || (leads rows.old a k && leads rows.old k b)) }
 {
-    let through = rows[k as usize];
-    for row in rows.iter_mut() {
-        *row = grown(*row, k, *row, through);
-    }
+    let through = row(rows, k);
+    renew(rows, |_, row| grown(row, k, row, through));
 }
 
 // What reaches what, from a table of arrows.

@@ -8,19 +8,13 @@ ghost use Rattle.graph.specs.Rows.{row as row_of, SomeBelow, mutual_reach, InGro
 use crate::arrows::arrows;
 use crate::closure::closed;
 use crate::op::Op;
+use crate::rows::row;
 
 // The dirty pages.
 pub fn dirty(ops: &[Op]) -> u64
     ensures { Pages result (Dirty (dirty_ops ops.now)) }
 {
     ops.iter().fold(0, |pages, o| sets::union(pages, o.writes))
-}
-
-// The row of a page; the empty set where there is no such page.
-fn row(rows: &[u64; 64], page: u32) -> u64
-    ensures { result ≡ row_of rows.now page }
-{
-    rows.get(page as usize).copied().unwrap_or(0)
 }
 
 // Page p, if its row meets the set.

@@ -6,6 +6,7 @@ mod closure;
 mod groups;
 mod listing;
 mod op;
+mod rows;
 #[cfg(test)]
 mod tests;
 

@@ -1,4 +1,4 @@
-use Rattle.std.proofs.Common.{ℕ, sym, subst, ◌∙◌, rules}
+use Rattle.std.proofs.Common.{ℕ, sym, subst, rules}
 use Rattle.std.proofs.lemmas.Bool.{both_ways}
 use Rattle.sets.specs.Sets.{Meet}
 use Rattle.graph.specs.Rows.{row}
