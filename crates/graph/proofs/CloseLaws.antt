@@ -26,7 +26,3 @@ close_more arrows k rows new was l long step = record { long = long; closed = cl
         step a b h
         ∙ ap₂ (λ x y. x || y) (was.closed a b h) (ap₂ (λ x y. x && y) (was.closed a k h) (was.closed k b l))
         ∙ ap (λ j. via (leads arrows) (pages_below j) a b) (sym (add-one k))
-
-pub close_all : (arrows : List ℕ) (k : ℕ) (rows : List ℕ) → k ≡ 64 → ClosedBelow arrows k rows
-    → (a b : ℕ) → a < 64 → leads rows a b ≡ via (leads arrows) (pages_below 64) a b
-close_all arrows k rows e was a b h = was.closed a b h ∙ ap (λ j. via (leads arrows) (pages_below j) a b) e

@@ -1,16 +1,21 @@
 -- Folds that gather pages, and loops that renew a table row by row.
-use Rattle.std.proofs.Common.{◌≡◌, ℕ, ◌+◌, ◌^◌, ◌<◌, ◌≤◌, true, ◌&&◌, ◌||◌, eqb, ltb, ◌⊎◌, List, [], ◌∷◌, ◌++◌, Option, zero-add, length, get_or, set, sym, refl, ap, ◌∙◌, subst, inl, inr, arith, length-set, get_or-set_other, get_or-set_same}
+use Rattle.std.proofs.Common.{◌≡◌, ℕ, ◌+◌, ◌^◌, ◌<◌, ◌≤◌, true, ◌&&◌, ◌||◌, eqb, ltb, List, [], ◌∷◌, ◌++◌, Option, zero-add, Decides, length, get_or, sym, refl, ap, ◌∙◌, subst, inl, inr, arith}
 use denote.Param.Members.{Mut}
 use Rattle.std.specs.Fn.{Called}
-use Rattle.std.specs.Iterator.{Drains}
-use Rattle.std.specs.List.{FoldsTo, range_with_len}
+use Rattle.std.specs.declared.ops.Range.{Range}
+use Rattle.std.specs.declared.slice.Iter.{Iter}
+use Rattle.std.proofs.iter.Yields.{fronts, nat_range_steps}
+use Rattle.std.specs.Slice.Iter.{iter_rest}
+use denote.Ref.{Bor}
+use Rattle.std.specs.Iterator.{FoldsItems}
+use Rattle.std.specs.List.{range_with_len}
 use Rattle.std.proofs.Math.ListN.{get_or-append}
 use Rattle.std.proofs.Math.Seq.{get_or-append_seam}
 use Rattle.std.proofs.lemmas.Fn.{fold_over}
-use Rattle.std.proofs.lemmas.Iterator.{YieldsList}
+use Rattle.std.proofs.lemmas.Iterator.{YieldsList, YieldsList-from_slice, YieldsList-from_range}
 use Rattle.std.proofs.lemmas.List.{length-append}
-use Rattle.std.proofs.lemmas.List.FromFn.{get_or-range_with_len, length-range_with_len}
-use Rattle.std.proofs.lemmas.Bool.{both_ways, cases_Bool, cases_eq, cases_lt, or_cases, or_left, or_right, and_parts, and_from, eqb-true, eq-eqb, lt-ltb, ltb-true}
+use Rattle.std.proofs.lemmas.List.FromFn.{get_or-range_with_len}
+use Rattle.std.proofs.lemmas.Bool.{both_ways, cases_Bool, cases_lt, or_cases, or_left, or_right, and_parts, and_from, eqb-true, eq-eqb, lt-ltb, ltb-true}
 use Rattle.sets.specs.Sets.{has, SetOf}
 use Rattle.sets.proofs.SetLaws.{has-none, none_only}
 use Rattle.graph.specs.Ops.{Pages}
@@ -46,50 +51,42 @@ gather-more {B} d P xs x s t r old new union b = (sound, complete)
           union b ∙ or_right (has s b) (has t b) ((new b).1 (subst (λ (z : B). P b z) (ap (λ j. get_or (xs ++ x ∷ []) j d) last ∙ get_or-append_seam xs x [] d) h))
     ]
 
--- a fold that adds the pages that each item gives
-pub gathered : {S A B F : Type 0} (steps : S → Option A → S → Type 0) (v : A → B) (g : Mut F (ℕ × (A × Unit {0})) ℕ) (f : F) (d : B) (P : ℕ → B → Type 0)
-    → ((s : ℕ) (x : A) (r : ℕ) (f' : F) → Called g f (s, (x, tt)) r f' → ((t : ℕ) × Pages t (λ b. P b (v x)) × SetOf r (λ b. has s b || has t b)) × (f' ≡ f))
-    → (s : S) (all : List B) (r : ℕ) → YieldsList steps v s all
-    → (xs : List A) × (f' : F) × Drains steps s xs × FoldsTo {P = F × ℕ} (λ p x q. Called g p.0 (p.1, (x, tt)) q.1 q.0) (f, 0) xs (f', r)
-    → Gathered d P all r
-gathered {S} {A} {B} {F} steps v g f d P one s all r from ran = fold_over steps v g (Gathered d P) f more s all 0 r from.runs none ran
+-- what a closure does that adds the pages that an item x gives: those are the pages b where P b x
+abbrev pub Adds : {A F : Type 0} → Mut F (ℕ × (A × Unit {0})) ℕ → F → (ℕ → A → Type 0) → Type 0
+Adds {A} {F} g f P = (s : ℕ) (x : A) (r : ℕ) (f' : F) → Called g f (s, (x, tt)) r f' → ((t : ℕ) × Pages t (λ b. P b x) × SetOf r (λ b. has s b || has t b)) × (f' ≡ f)
+
+-- a fold that adds them for each item
+gathered : {S A B F : Type 0} (steps : S → Option A → S → Type 0) (v : A → B) (g : Mut F (ℕ × (A × Unit {0})) ℕ) (f : F) (d : B) (P : ℕ → B → Type 0)
+    → Adds g f (λ b x. P b (v x)) → (s : S) (all : List B) (r : ℕ) → YieldsList steps v s all → FoldsItems steps g s f 0 r → Gathered d P all r
+gathered {S} {A} {B} {F} steps v g f d P adds s all r from ran = fold_over steps v g (Gathered d P) f more s all 0 r from.runs none ran
   where
     none : Gathered d P [] 0
     none = pages-none (λ b. SomeBelow 0 (λ i. P b (get_or [] i d))) (λ q x. let l = x.1 in omega arith)
 
     more : (ys : List B) (a : ℕ) (x : A) (b : ℕ) (f' : F) → Gathered d P ys a → Called g f (a, (x, tt)) b f' → Gathered d P (ys ++ (v x ∷ [])) b × (f' ≡ f)
-    more ys a x b f' old call = let o = one a x b f' call in (gather-more d P ys (v x) a o.0.0 b old o.0.1 o.0.2, o.1)
+    more ys a x b f' old call = let o = adds a x b f' call in (gather-more d P ys (v x) a o.0.0 b old o.0.1 o.0.2, o.1)
 
--- the same over the pages
-pub gathered-pages : (n : ℕ) (P : ℕ → ℕ → Type 0) (s : ℕ) → Gathered 0 P (range_with_len 0 n) s → Pages s (λ b. SomeBelow n (P b))
-gathered-pages n P s old b = (
-  λ e. let i = (old b).0 e in
-      let l : i.0 < n = omega (arith, i.1, length-range_with_len 0 n) in (i.0, l, subst (λ (z : ℕ). P b z) (get_or-range_with_len 0 n i.0 0 l ∙ zero-add i.0) i.2),
-  λ i. (old b).1 (i.0, omega (arith, i.1, length-range_with_len 0 n), subst (λ (z : ℕ). P b z) (sym (get_or-range_with_len 0 n i.0 0 i.1 ∙ zero-add i.0)) i.2),
+-- over a slice
+pub gathered-items : {A F : Type 0} (g : Mut F (ℕ × (Bor A × Unit {0})) ℕ) (f : F) (d : A) (P : ℕ → A → Type 0) → Adds g f (λ b x. P b x.now)
+    → (s : Iter A) (all : List A) (r : ℕ) → iter_rest s ≡ all → FoldsItems fronts g s f 0 r → Gathered d P all r
+gathered-items g f d P adds s all r e ran = gathered fronts (λ y. y.now) g f d P adds s all r (YieldsList-from_slice all e) ran
+
+-- over the pages
+pub gathered-pages : {F : Type 0} (g : Mut F (ℕ × (ℕ × Unit {0})) ℕ) (f : F) (P : ℕ → ℕ → Type 0) → Adds g f P
+    → (s : Range ℕ) (r : ℕ) → s ≡ record { start = 0; end = 64 } → FoldsItems nat_range_steps g s f 0 r → Pages r (λ b. SomeBelow 64 (P b))
+gathered-pages g f P adds s r e ran b = (
+  λ h. let i = all.0 h in (i.0, i.1, subst (λ (z : ℕ). P b z) (get_or-range_with_len 0 64 i.0 0 i.1 ∙ zero-add i.0) i.2),
+  λ i. all.1 (i.0, i.1, subst (λ (z : ℕ). P b z) (sym (get_or-range_with_len 0 64 i.0 0 i.1 ∙ zero-add i.0)) i.2),
 )
+  where
+    all : Decides (has r b) (SomeBelow 64 (λ i. P b (get_or (range_with_len 0 64) i 0)))
+    all = gathered nat_range_steps (λ x. x) g f 0 P adds s (range_with_len 0 64) r (YieldsList-from_range 0 64 64 e refl) ran b
 
 -- a table in which R holds of each row below i as it was and as it is, and the others are as they were
 pub record Renewed (R : ℕ → ℕ → ℕ → Type 0) (old : List ℕ) (i : ℕ) (new : List ℕ) : Type 0 where
   pub long : length new ≡ 64
   pub done : (a : ℕ) → a < i → R a (row old a) (row new a)
   pub left : (a : ℕ) → i ≤ a → row new a ≡ row old a
-
-pub renew-none : (R : ℕ → ℕ → ℕ → Type 0) (old : List ℕ) → length old ≡ 64 → Renewed R old 0 old
-renew-none R old l = record { long = l; done = λ a h. absurd (omega arith); left = λ a h. refl }
-
-pub renew-more : (R : ℕ → ℕ → ℕ → Type 0) (old : List ℕ) (i : ℕ) (new : List ℕ) (x : ℕ) → Renewed R old i new → i < 64 → R i (row new i) x → Renewed R old (i + 1) (set new i x)
-renew-more R old i new x was l is = record {
-  long = length-set new i x ∙ was.long;
-  done = λ a h. done_at a (omega arith) (cases_eq a i);
-  left = λ a h. get_or-set_other new i a x 0 (λ e. omega arith) ∙ was.left a (omega arith);
-}
-  where
-    done_at : (a : ℕ) → a ≤ i → (a ≡ i) ⊎ (a ≡ i → ⊥) → R a (row old a) (row (set new i x) a)
-    done_at a le (inl same) =
-        subst (λ (k : ℕ). R k (row old k) (row (set new i x) k)) (sym same)
-        (subst (λ (y : ℕ). R i (row old i) y) (sym (get_or-set_same new i x 0 (let n = was.long in omega arith)))
-        (subst (λ (y : ℕ). R i y x) (was.left i (omega arith)) is))
-    done_at a le (inr other) = subst (λ (y : ℕ). R a (row old a) y) (sym (get_or-set_other new i a x 0 other)) (was.done a (omega arith))
 
 -- one page, if P holds, which holds of none but the pages
 pub page_where : (P : Type 0) (s p : ℕ) → SetOf s (λ q. eqb q p && ltb p 64) → (p < 64 → P) → (P → p < 64) → Pages s (λ q. (q ≡ p) × P)

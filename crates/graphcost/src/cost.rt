@@ -3,6 +3,7 @@
 ghost use Rattle.std.specs.Prelude.{◌<◌};
 
 use graph::Op;
+use std::num::NonZeroU32;
 use std::time::{Duration, Instant};
 use std::{array, io};
 
@@ -50,10 +51,8 @@ fn operations(shape: Shape) -> [Op; 128] {
 
 // Operation `round % 128` reads the pages that it writes as well, or no longer.
 fn change(ops: &mut [Op; 128], round: u32) {
-    let i = (round % 128) as usize;
-    let mut o = ops[i];
+    let o = &mut ops[(round % 128) as usize];
     o.reads = sets::toggle(o.reads, o.writes);
-    ops[i] = o;
 }
 
 // The pages in the answers of a call, over all rounds.
@@ -70,9 +69,14 @@ fn pages_answered<F: Fn(&[Op]) -> u64>(shape: Shape, rounds: u32, call: F) -> u6
 }
 
 // Microseconds for each round, to a tenth.
-fn line(rt: &HostRuntime, call: &str, rounds: u32, all: Duration, pages: u64) -> io::Result<()>
-    requires { 0 < rounds }
-{
+fn line(
+    rt: &HostRuntime,
+    call: &str,
+    rounds: NonZeroU32,
+    all: Duration,
+    pages: u64,
+) -> io::Result<()> {
+    let rounds = rounds.get();
     let tenths = all.as_nanos() / rounds as u128 / 100;
     let whole = tenths / 10;
     let rest = tenths % 10;
@@ -84,27 +88,22 @@ fn time<F: Fn(&[Op]) -> u64>(
     rt: &HostRuntime,
     name: &str,
     shape: Shape,
-    rounds: u32,
+    rounds: NonZeroU32,
     call: F,
 ) -> io::Result<()>
-    requires some { 0 < rounds }
-    requires callable { F.IsAlwaysCallable call }
+    requires { F.IsAlwaysCallable call }
 {
     let start = Instant::now(rt)?;
-    let pages = pages_answered(shape, rounds, call);
+    let pages = pages_answered(shape, rounds.get(), call);
     line(rt, name, rounds, start.elapsed(rt)?, pages)
 }
 
-fn both_calls(rt: &HostRuntime, shape: Shape, rounds: u32) -> io::Result<()>
-    requires { 0 < rounds }
-{
+fn both_calls(rt: &HostRuntime, shape: Shape, rounds: NonZeroU32) -> io::Result<()> {
     time(rt, "  group", shape, rounds, |ops| graph::group(ops, 63))?;
     time(rt, "  before", shape, rounds, |ops| graph::before(ops, 63))
 }
 
-pub(crate) fn measure(rt: &HostRuntime, rounds: u32) -> io::Result<()>
-    requires { 0 < rounds }
-{
+pub(crate) fn measure(rt: &HostRuntime, rounds: NonZeroU32) -> io::Result<()> {
     println!(rt; "128 operations, all pages in one group")?;
     both_calls(rt, Shape::OneGroup, rounds)?;
     println!(rt; "128 operations, 64 groups, 63 of them directly before one")?;

@@ -4,24 +4,21 @@
 mod cost;
 mod example;
 
+use std::num::NonZeroU32;
 use std::{env, io};
 
-// The number of rounds that the first argument gives; 0 where it gives none.
-fn rounds(rt: &HostRuntime) -> io::Result<u32> {
-    let mut words = env::args(rt)?;
-    let _ = words.next();
-    match words.next() {
-        Some(word) => Ok(word.parse::<u32>().unwrap_or(0)),
-        None => Ok(0),
-    }
+// The number of rounds that the first argument gives; none where it gives none, or 0.
+fn rounds(rt: &HostRuntime) -> io::Result<Option<NonZeroU32>> {
+    let word = env::args(rt)?.nth(1);
+    Ok(word.and_then(|word| word.parse::<NonZeroU32>().ok()))
 }
 
 fn main(rt: HostRuntime) -> io::Result<()> {
-    let rounds = rounds(&rt)?;
-    if rounds == 0 {
-        println!(rt; "the cost of a call is measured only when a number of rounds is given")?;
-        example::show(&rt)
-    } else {
-        cost::measure(&rt, rounds)
+    match rounds(&rt)? {
+        Some(rounds) => cost::measure(&rt, rounds),
+        None => {
+            println!(rt; "the cost of a call is measured only when a number of rounds is given")?;
+            example::show(&rt)
+        }
     }
 }

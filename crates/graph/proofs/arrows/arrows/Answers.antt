@@ -1,5 +1,5 @@
 use Rattle.std.proofs.Common.{arith}
-use Rattle.graph.proofs.ArrowLaws.{arrows-none, arrows-more, arrows-all, dirty-within}
+use Rattle.graph.proofs.ArrowLaws.{arrows-none, arrows-more, arrows-all}
 use Rattle.graph.proofs.arrows.arrows.Goals as goal
 
 pub loop-o-init : goal.loop-o-init
@@ -10,8 +10,5 @@ loop-o-preserved c =
     arrows-more c.args.ops.now c.loop-o.o-index c.loop-o.rows c.spread.new.rows c.targets-to.result c.targets-to.type_inv
     c.loop-o.invariant c.spread.array_long c.targets-to.ensures c.spread.ensures
 
-pub returns : goal.returns
-returns c = record {
-  made = arrows-all c.args.ops.now c.loop-o.o-index c.loop-o.rows (omega arith) c.loop-o.invariant;
-  within = dirty-within c.args.ops.now c.loop-o.o-index c.loop-o.rows (omega arith) c.loop-o.invariant;
-}
+pub returns-clause-made : goal.returns-clause-made
+returns-clause-made c = arrows-all c.args.ops.now c.loop-o.o-index c.loop-o.rows (omega arith) c.loop-o.invariant

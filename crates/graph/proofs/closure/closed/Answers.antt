@@ -1,5 +1,5 @@
 use Rattle.std.proofs.Common.{arith, rules}
-use Rattle.graph.proofs.CloseLaws.{close_none, close_more, close_all}
+use Rattle.graph.proofs.CloseLaws.{close_none, close_more}
 use Rattle.graph.proofs.closure.closed.Goals as goal
 
 pub loop-k-init : goal.loop-k-init
@@ -8,6 +8,3 @@ loop-k-init c = close_none c.args.arrows (search rules)
 pub loop-k-preserved : goal.loop-k-preserved
 loop-k-preserved c =
     close_more c.args.arrows c.loop-k.k c.loop-k.rows c.let_in.new.rows c.loop-k.invariant (omega arith) c.let_in.array_long c.let_in.ensures
-
-pub returns : goal.returns
-returns c = close_all c.args.arrows c.loop-k.k c.loop-k.rows (omega arith) c.loop-k.invariant
