@@ -8,6 +8,10 @@ use Rattle.faults.specs.Faults.{Report, report}
 use Rattle.media.specs.Media.{Device, block_count, block_at, check, read_fault, read_into, dies, begins, fated, WroteBy}
 
 module _ (m : Device) (b : ℕ) (buffer : List ℕ) where
+  -- the checks passed
+  pub read_checked : None ≡ read_fault m b buffer → (b < block_count m) × (length buffer ≡ 256)
+  read_checked e = (grind (arith, nat_tests), grind (arith, nat_tests))
+
   pub read_no_block : block_count m ≤ b → (Some (report (NoSuchBlock b)) ≡ read_fault m b buffer) × (buffer ≡ read_into m b buffer)
   read_no_block h = (grind (arith, nat_tests), grind (arith, nat_tests))
 

@@ -1,12 +1,14 @@
 -- A partition reads and writes as a medium of its own.
-use Rattle.std.proofs.Common.{◌≡◌, ℕ, ◌+◌, ◌<◌, ◌≤◌, Bool, true, false, cond, not, ◌&&◌, eqb, leb, List, [], length, get_or, take, drop, set, None, Option, sym, refl, ap, ◌∙◌, inl, inr, arith}
+use Rattle.std.proofs.Common.{◌≡◌, ℕ, ◌+◌, ◌<◌, ◌≤◌, Bool, true, false, cond, not, ◌&&◌, eqb, leb, List, [], length, get_or, take, drop, set, Some, None, Option, Result, Ok, Err, sym, refl, ap, ◌∙◌, inl, inr, arith}
 use lib.Seq.{take-set-lt}
 use Rattle.std.proofs.lemmas.List.{length-take, length-drop, length-set, get_or-take, get_or-drop, drop-set-add, drop-set-lt, take-set-le}
 use Rattle.std.proofs.lemmas.Bool.{lt-ltb, le-leb, lt-leb, leb-true, cases_Bool}
 use Rattle.std.specs.Option.{option_map}
+use Rattle.std.specs.Result.{MatchResult, IsErrAnd}
 use Rattle.media.specs.declared.fate.Fate.{Fate}
+use Rattle.faults.specs.declared.fault.Fault.{Fault}
 use Rattle.faults.specs.declared.fault.Fault.TheVariants.{WrongLength, PowerLost}
-use Rattle.faults.specs.Faults.{Report, report}
+use Rattle.faults.specs.Faults.{Report, report, refusal}
 use Rattle.media.specs.Media.{Device, Whole, block_count, block_at, check, read_fault, read_into, dies, lands, write_fault, begins, fated, after_write, WroteBy}
 use Rattle.media.specs.Parts.{part_of, retell, SameOutside}
 
@@ -106,6 +108,13 @@ module _ (a n : ℕ) (m : Device) where
         kept g e true true = e
         kept g e true false = refl
         kept g e false u = refl
+
+-- a refusal of the medium below, told anew
+pub told_anew : (b : ℕ) (Told : Fault → Fault → Type 0) (below above : Result (Unit {0}) Fault) → MatchResult below (λ x. above ≡ Ok x) (λ e. IsErrAnd above (Told e))
+    → ((e f : Fault) → Told e f → report f ≡ retell b (report e)) → refusal above ≡ option_map (retell b) (refusal below)
+told_anew b Told (Ok x) above e h = ap refusal e
+told_anew b Told (Err f) (Ok x) e h = absurd e
+told_anew b Told (Err f) (Err k) e h = ap Some (h f k e)
 
 -- the blocks of a partition are blocks of the medium
 pub part-of_whole : (a n : ℕ) (m : Device) → Whole m → Whole (part_of a n m)

@@ -1,5 +1,5 @@
 -- The memory medium: as many blocks of 256 bytes as fit into the host's bytes, and a fuse by which alone it dies.
-use Rattle.std.specs.Prelude.{ℕ, zero, suc, ◌*◌, ◌/◌, List, [], ◌∷◌, length, take, drop}
+use Rattle.std.specs.Prelude.{◌≡◌, ℕ, zero, suc, ◌*◌, ◌/◌, List, [], ◌∷◌, length, take, drop}
 use Rattle.media.specs.declared.memory.MemoryMedium.{MemoryMedium}
 use Rattle.media.specs.declared.fate.Fate.{Fate}
 use Rattle.media.specs.declared.fate.Fate.TheVariants.{Lives, DiesOld, DiesNew}
@@ -53,3 +53,8 @@ renewed Blown = Absent
 -- what the medium is to its users
 abbrev pub memory : MemoryMedium → Device
 memory m = record { blocks = blocks_of m.bytes.now; live = m.live }
+
+-- m' stands on the same bytes of the host as m, lent once, and those behind the last block are as they were
+pub record KeepsHost (m m' : MemoryMedium) : Type 0 where
+  pub rest : behind m'.bytes.now ≡ behind m.bytes.now
+  pub lent : m'.bytes.ghost_name ≡ m.bytes.ghost_name

@@ -17,21 +17,13 @@ impl Fate {
     pub fn dies(self) -> bool
         ensures { result ≡ dies_by self }
     {
-        match self {
-            Fate::Lives => false,
-            Fate::DiesOld => true,
-            Fate::DiesNew => true,
-        }
+        matches!(self, Fate::DiesOld | Fate::DiesNew)
     }
 
     // Whether the block becomes new.
     pub fn lands(self) -> bool
         ensures { result ≡ lands_by self }
     {
-        match self {
-            Fate::Lives => true,
-            Fate::DiesOld => false,
-            Fate::DiesNew => true,
-        }
+        matches!(self, Fate::Lives | Fate::DiesNew)
     }
 }

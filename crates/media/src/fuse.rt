@@ -37,14 +37,9 @@ impl Fuse {
         ensures { result ≡ burnt_by self }
     {
         match self {
-            Fuse::Absent => Fuse::Absent,
-            Fuse::Armed(n, left) => {
-                if n == 0 {
-                    return Fuse::Blown;
-                }
-                Fuse::Armed(n - 1, left)
-            }
-            Fuse::Blown => Fuse::Blown,
+            Fuse::Armed(0, _) => Fuse::Blown,
+            Fuse::Armed(n, left) => Fuse::Armed(n - 1, left),
+            other => other,
         }
     }
 
@@ -54,8 +49,7 @@ impl Fuse {
     {
         match self {
             Fuse::Blown => Fuse::Absent,
-            Fuse::Armed(n, left) => Fuse::Armed(n, left),
-            Fuse::Absent => Fuse::Absent,
+            other => other,
         }
     }
 }

@@ -49,13 +49,8 @@ impl<M: Medium> Partition<M> {
     {
         let count = self.medium.count();
         match self.first.checked_add(self.blocks) {
-            Some(end) => {
-                if end <= count {
-                    return self.blocks;
-                }
-                0
-            }
-            None => 0,
+            Some(end) if end <= count => self.blocks,
+            _ => 0,
         }
     }
 }
@@ -93,10 +88,9 @@ impl<M: Medium> Medium for Partition<M> {
         if block >= self.length() {
             return Err(Fault::NoSuchBlock(block));
         }
-        match self.medium.write(self.first + block, data) {
-            Ok(()) => Ok(()),
-            Err(fault) => Err(retold(fault, block)),
-        }
+        self.medium
+            .write(self.first + block, data)
+            .map_err(|fault| retold(fault, block))
     }
 
     fn power_on(&mut self)

@@ -9,4 +9,4 @@ store_block-requires c =
     let s = c.args.self.now in
     let n = length-chunks (fitting s.bytes.now) s.bytes.now in
     let p = begins-parts (fate_of s.fuse) (memory s) c.args.block c.args.new.now c.requires.begins in
-    record { fits = omega arith; whole = p.1 }
+    record { fits = omega arith }

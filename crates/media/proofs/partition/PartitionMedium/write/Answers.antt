@@ -1,39 +1,16 @@
-use Rattle.std.proofs.Common.{◌<◌, Some, None, refl, ap, ◌∙◌, arith}
-use Rattle.faults.specs.Faults.{report}
+use Rattle.std.proofs.Common.{◌<◌, ◌∙◌, arith, rules}
+use Rattle.faults.specs.Faults.{refusal}
 use Rattle.media.specs.Media.{block_count}
 use Rattle.media.specs.Parts.{part_of}
-use Rattle.media.proofs.PartLaws.{part-wrote, part-outside}
+use Rattle.media.proofs.PartLaws.{part-wrote, told_anew}
 use Rattle.media.proofs.partition.PartitionMedium.write.Goals as goal
 
-pub overflow_add-self : goal.overflow_add-self
-overflow_add-self g c = let h = c.length.ensures.room c.args.block c.if-block-length.false in omega arith
-
-pub returns-in-Ok : goal.returns-in-Ok
-returns-in-Ok g c =
+pub returns-clause-wrote : goal.returns-clause-wrote
+returns-clause-wrote g c =
     let s = c.args.self.now in
     let m = g.M.Medium.model s.medium in
     let m' = g.M.Medium.model c.write.new.self in
     let there : c.args.block < block_count (part_of s.first s.blocks m) = omega (arith, c.length.ensures.count) in
-    let w = c.in-Ok.ensures.wrote in
-    record {
-      wrote = (w.0, part-wrote s.first s.blocks m c.args.block there w.0 c.args.data.now None m' w.1);
-      outside = part-outside s.first s.blocks m c.args.block there w.0 c.args.data.now None m' w.1;
-      first = refl;
-      blocks = refl;
-    }
-
-pub returns-in-Err : goal.returns-in-Err
-returns-in-Err g c =
-    let s = c.args.self.now in
-    let m = g.M.Medium.model s.medium in
-    let m' = g.M.Medium.model c.write.new.self in
-    let there : c.args.block < block_count (part_of s.first s.blocks m) = omega (arith, c.length.ensures.count) in
-    let w = c.in-Err.ensures.wrote in
-    let o = Some (report c.in-Err.fault) in
-    let p = part-wrote s.first s.blocks m c.args.block there w.0 c.args.data.now o m' w.1 in
-    record {
-      wrote = (w.0, record { answer = ap Some c.retold.ensures ∙ p.answer; after = p.after });
-      outside = part-outside s.first s.blocks m c.args.block there w.0 c.args.data.now o m' w.1;
-      first = refl;
-      blocks = refl;
-    }
+    let w = c.write.ensures.wrote in
+    let p = part-wrote s.first s.blocks m c.args.block there w.0 c.args.data.now (refusal c.write.result) m' w.1 in
+    (w.0, record { answer = told_anew c.args.block _ c.write.result c.map_err.result c.map_err.ensures.cases (λ e f h. search rules) ∙ p.answer; after = p.after })
