@@ -59,8 +59,3 @@ blocks-put bs d b h e =
       ap (λ n. drop (256 * n) (put_mid (b * 256) 256 bs d)) same
           ∙ drop-put_mid (b * 256) 256 bs d (256 * fitting bs) (omega arith) (omega arith) e,
     )
-
-pub chunks-whole : (bs : List ℕ) (b : ℕ) → b < length (blocks_of bs) → length (get_or (blocks_of bs) b []) ≡ 256
-chunks-whole bs b h =
-    let n = length-chunks (fitting bs) bs in
-    ap length (get_d_chunks (fitting bs) bs b (omega arith)) ∙ simp (length-take, length-drop) (omega arith)

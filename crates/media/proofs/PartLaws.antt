@@ -1,7 +1,7 @@
 -- A partition reads and writes as a medium of its own.
 use Rattle.std.proofs.Common.{◌≡◌, ℕ, ◌+◌, ◌<◌, ◌≤◌, Bool, true, false, cond, not, ◌&&◌, eqb, leb, List, [], length, get_or, take, drop, set, Some, None, Option, Result, Ok, Err, sym, refl, ap, ◌∙◌, inl, inr, arith}
 use lib.Seq.{take-set-lt}
-use Rattle.std.proofs.lemmas.List.{length-take, length-drop, length-set, get_or-take, get_or-drop, drop-set-add, drop-set-lt, take-set-le}
+use Rattle.std.proofs.lemmas.List.{length-take, length-drop, length-set, get_or-take, get_or-drop, drop-set-add}
 use Rattle.std.proofs.lemmas.Bool.{lt-ltb, le-leb, lt-leb, leb-true, cases_Bool}
 use Rattle.std.specs.Option.{option_map}
 use Rattle.std.specs.Result.{MatchResult, IsErrAnd}
@@ -9,16 +9,13 @@ use Rattle.media.specs.declared.fate.Fate.{Fate}
 use Rattle.faults.specs.declared.fault.Fault.{Fault}
 use Rattle.faults.specs.declared.fault.Fault.TheVariants.{WrongLength, PowerLost}
 use Rattle.faults.specs.Faults.{Report, report, refusal}
-use Rattle.media.specs.Media.{Device, Whole, block_count, block_at, check, read_fault, read_into, dies, lands, write_fault, begins, fated, after_write, WroteBy}
-use Rattle.media.specs.Parts.{part_of, retell, SameOutside}
+use Rattle.media.specs.Media.{Device, block_count, block_at, check, dies, lands, write_fault, begins, fated, after_write, WroteBy}
+use Rattle.media.specs.Parts.{part_of, retell}
 
 module _ (a n : ℕ) (m : Device) where
   -- it has all its blocks, or none
   pub part-whole : a + n ≤ block_count m → block_count (part_of a n m) ≡ n
   part-whole h = rw (le-leb (a + n) (block_count m) h) (simp (length-take, length-drop) (omega arith))
-
-  pub part-short : block_count m < a + n → block_count (part_of a n m) ≡ 0
-  part-short h = rw (lt-leb (a + n) (block_count m) h) refl
 
   -- where a block is there, the medium holds the whole partition
   pub part-fits : (b : ℕ) → b < block_count (part_of a n m) → (a + n ≤ block_count m) × (b < n)
@@ -31,22 +28,13 @@ module _ (a n : ℕ) (m : Device) where
     part-blocks : (part_of a n m).blocks ≡ take n (drop a m.blocks)
     part-blocks = ap (λ t. cond t (take n (drop a m.blocks)) []) (le-leb (a + n) (block_count m) (part-fits b there).0)
 
-    pub part_at : block_at (part_of a n m) b ≡ block_at m (a + b)
+    part_at : block_at (part_of a n m) b ≡ block_at m (a + b)
     part_at =
         let lt = (part-fits b there).1 in
         ap (λ bs. get_or bs b []) part-blocks ∙ get_or-take n (drop a m.blocks) b [] lt ∙ get_or-drop a m.blocks b []
 
     below : a + b < block_count m
     below = let f = part-fits b there in omega arith
-
-    pub part-read_fault : (buffer : List ℕ) → read_fault m (a + b) buffer ≡ read_fault (part_of a n m) b buffer
-    part-read_fault buffer = rw (lt-leb (block_count m) (a + b) below, lt-leb (block_count (part_of a n m)) b there) refl
-
-    pub part-read_into : (buffer : List ℕ) → read_into m (a + b) buffer ≡ read_into (part_of a n m) b buffer
-    part-read_into buffer =
-        ap (λ t. cond (t && eqb (length buffer) 256) (block_at m (a + b)) buffer) (lt-ltb (a + b) (block_count m) below)
-        ∙ ap (λ x. cond (eqb (length buffer) 256) x buffer) (sym part_at)
-        ∙ sym (ap (λ t. cond (t && eqb (length buffer) 256) (block_at (part_of a n m) b) buffer) (lt-ltb b (block_count (part_of a n m)) there))
 
     part-begins : (d : List ℕ) → begins m (a + b) d ≡ begins (part_of a n m) b d
     part-begins d = ap (λ t. (t && eqb (length d) 256) && m.live) (lt-ltb (a + b) (block_count m) below ∙ sym (lt-ltb b (block_count (part_of a n m)) there))
@@ -94,28 +82,9 @@ module _ (a n : ℕ) (m : Device) where
         → WroteBy f (part_of a n m) b d (option_map (retell b) o) (part_of a n m')
     part-wrote f d o m' w = record { answer = ap (option_map (retell b)) w.answer ∙ part-write_fault f d; after = ap (part_of a n) w.after ∙ part-after f d }
 
-    -- no block outside changes
-    pub part-outside : (f : Fate) (d : List ℕ) (o : Option Report) (m' : Device) → WroteBy f m (a + b) d o m' → SameOutside a n m m'
-    part-outside f d o m' w =
-        let lt = (part-fits b there).1 in
-        record {
-          front = ap (λ x. take a x.blocks) w.after ∙ kept (take a) (take-set-le a m.blocks (a + b) d (omega arith)) (begins m (a + b) d) (lands f);
-          rest = ap (λ x. drop (a + n) x.blocks) w.after ∙ kept (drop (a + n)) (drop-set-lt (a + n) m.blocks (a + b) d (omega arith)) (begins m (a + b) d) (lands f);
-        }
-      where
-        kept : (g : List (List ℕ) → List (List ℕ)) → g (set m.blocks (a + b) d) ≡ g m.blocks → (t u : Bool)
-            → g (cond t (record { blocks = cond u (set m.blocks (a + b) d) m.blocks; live = not (dies f) }) m).blocks ≡ g m.blocks
-        kept g e true true = e
-        kept g e true false = refl
-        kept g e false u = refl
-
 -- a refusal of the medium below, told anew
 pub told_anew : (b : ℕ) (Told : Fault → Fault → Type 0) (below above : Result (Unit {0}) Fault) → MatchResult below (λ x. above ≡ Ok x) (λ e. IsErrAnd above (Told e))
     → ((e f : Fault) → Told e f → report f ≡ retell b (report e)) → refusal above ≡ option_map (retell b) (refusal below)
 told_anew b Told (Ok x) above e h = ap refusal e
 told_anew b Told (Err f) (Ok x) e h = absurd e
 told_anew b Told (Err f) (Err k) e h = ap Some (h f k e)
-
--- the blocks of a partition are blocks of the medium
-pub part-of_whole : (a n : ℕ) (m : Device) → Whole m → Whole (part_of a n m)
-part-of_whole a n m w b there = let f = part-fits a n m b there in ap length (part_at a n m b there) ∙ w (a + b) (omega arith)

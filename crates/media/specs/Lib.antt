@@ -2,3 +2,4 @@ pub mod Media
 pub mod Memory
 pub mod Parts
 pub mod Plans
+pub mod WholeLaws

@@ -14,8 +14,7 @@ pub trait Medium {
 
     // How many blocks there are; this never changes.
     fn count(&self) -> usize
-        ensures count { result ≡ block_count (model self.now) }
-        ensures whole { Whole (model self.now) };
+        ensures { result ≡ block_count (model self.now) };
 
     // Reads a block, live or dead.
     fn read(&self, block: usize, buffer: &mut [u8]) -> Result<(), Fault>
@@ -29,4 +28,7 @@ pub trait Medium {
     // Power-on: the medium is live, and no block changes.
     fn power_on(&mut self)
         ensures after { model self.new ≡ powered (model self.old) };
+
+    // each block has 256 bytes
+    ghost whole: { (m : Self) → Whole (model m) };
 }

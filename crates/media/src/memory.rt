@@ -4,6 +4,7 @@ ghost use Rattle.media.specs.declared.fuse.Fuse.TheVariants.{Absent, Armed};
 ghost use Rattle.faults.specs.Faults.{refusal};
 ghost use Rattle.media.specs.Media.{begins, read_fault, Wrote, WroteBy, powered};
 ghost use Rattle.media.specs.Memory.{memory, blocks_of, behind, fitting, fate_of, burnt, renewed, KeepsHost};
+ghost use Rattle.media.specs.WholeLaws.{blocks-whole};
 
 use crate::fate::Fate;
 use crate::fuse::{Fuse, Left};
@@ -69,9 +70,7 @@ impl<'a> MemoryMedium<'a> {
         if block >= self.count() {
             return Err(Fault::NoSuchBlock(block));
         }
-        bytes
-            .as_array()
-            .ok_or(Fault::WrongLength(bytes.len()))
+        bytes.as_array().ok_or(Fault::WrongLength(bytes.len()))
     }
 
     // Carries out a write that is allowed, with the fate that the fuse gives it.
@@ -96,6 +95,8 @@ impl<'a> MemoryMedium<'a> {
 
 impl<'a> Medium for MemoryMedium<'a> {
     ghost model = { memory };
+
+    ghost whole = { λ m. blocks-whole m.bytes.now m.live };
 
     fn count(&self) -> usize {
         self.bytes.len() / BLOCK

@@ -1,8 +1,9 @@
 // Some blocks of another medium, counted from 0 again.
 ghost use Rattle.std.specs.Prelude.{◌≡◌, ℕ, ◌+◌, ◌^◌, ◌<◌};
 ghost use Rattle.faults.specs.Faults.{refusal, report};
-ghost use Rattle.media.specs.Media.{Wrote, Whole, powered, block_count};
+ghost use Rattle.media.specs.Media.{Wrote, powered, block_count};
 ghost use Rattle.media.specs.Parts.{part_of, retell, SameOutside};
+ghost use Rattle.media.specs.WholeLaws.{part-whole};
 
 use crate::medium::Medium;
 use faults::Fault;
@@ -44,7 +45,6 @@ impl<M: Medium> Partition<M> {
     // How many blocks the partition has: none where the medium is too short for it.
     fn length(&self) -> usize
         ensures count { result ≡ block_count (part_of self.now.first self.now.blocks (M.Medium.model self.now.medium)) }
-        ensures whole { Whole (part_of self.now.first self.now.blocks (M.Medium.model self.now.medium)) }
         ensures room { (b : ℕ) → b < result → self.now.first + b < 2 ^ 64 }
     {
         let count = self.medium.count();
@@ -67,6 +67,8 @@ fn retold(fault: Fault, block: usize) -> Fault
 
 impl<M: Medium> Medium for Partition<M> {
     ghost model = { λ p. part_of p.first p.blocks (M.Medium.model p.medium) };
+
+    ghost whole = { λ p. part-whole p.first p.blocks (M.Medium.model p.medium) (M.Medium.whole p.medium) };
 
     fn count(&self) -> usize {
         self.length()
