@@ -1,16 +1,17 @@
 -- A run of a plan that installs a set is an install.
-use Rattle.std.proofs.Common.{◌≡◌, ℕ, ◌^◌, ◌<◌, ◌≤◌, Bool, true, false, cond, not, ◌&&◌, eqb, leb, ◌⊎◌, List, [], ◌∷◌, ◌++◌, map, length, get_or, Some, None, Option, sym, refl, ap, ◌∙◌, subst, inl, inr, arith}
+use Rattle.std.proofs.Common.{◌≡◌, ℕ, ◌^◌, ◌<◌, ◌≤◌, Bool, true, false, cond, leb, ◌⊎◌, List, [], ◌∷◌, ◌++◌, map, length, get_or, Some, None, Option, sym, refl, ap, ◌∙◌, subst, inl, inr, arith}
 use lib.Bits.{bit_xor}
 use Rattle.std.proofs.lemmas.List.{length-map, length-append}
-use Rattle.std.proofs.lemmas.Bool.{cases_eq, eq-eqb, ne_eqb, eqb-true, leb-true, leb-false, le-leb, lt-leb, cond-true, cond-false}
-use Rattle.faults.specs.declared.fault.Fault.TheVariants.{WrongLength, PowerLost, TooShort}
+use Rattle.std.proofs.lemmas.Bool.{eq-eqb, ne_eqb, le-leb, lt-leb, cond-true, cond-false}
+use Rattle.faults.specs.declared.fault.Fault.TheVariants.{PowerLost, TooShort}
 use Rattle.faults.specs.Faults.{Report, report}
 use Rattle.media.specs.Media.{Device, Whole, block_count, check}
 use Rattle.media.specs.Plans.{Write, Ran}
-use Rattle.media.proofs.PlanLaws.{throughout-ran, ran-passed, ran-failed, ran-count, ran-lives, ran-nothing}
+use Rattle.media.specs.Plans.Ran.{done}
+use Rattle.media.proofs.PlanLaws.{throughout-ran, ran-passed, ran-failed, ran-count, ran-lives}
 use Rattle.stores.specs.Images.{blank, pictured}
 use Rattle.stores.specs.Layout.{set_in, page_in}
-use Rattle.stores.specs.Stores.{State, Live, Dead, Short, Store, store_on, Ending, Passes, FailsOld, FailsNew, Possible, installed, InstalledBy, Installed, end_fault, end_store, is_short, install_check, Carried}
+use Rattle.stores.specs.Stores.{State, Live, Dead, Short, Store, store_on, Ending, Passes, FailsOld, FailsNew, Possible, installed, InstalledBy, Installed, end_fault, end_store, is_short}
 use Rattle.stores.specs.Plans.{image_writes, set_write, every_page, settle_writes, journal_writes, shadow_writes, journal_plan, shadow_plan}
 use Rattle.stores.proofs.PlanLaws.{Installs, journal_none, journal_some, journal_installs, journal_plan_lem, shadow_none, shadow_some, shadow_installs, shadow_plan_lem}
 
@@ -123,93 +124,71 @@ module _ (m m' : Device) (room : 129 ≤ block_count m) (set' : ℕ) (images : L
   ran-installs None r = passes r
   ran-installs (Some q) r = fails q r
 
--- ---- the checks of an install
-
-pub check-passed : (m : Device) (images : List ℕ) → install_check m images ≡ None → (length images ≡ 16384) × (129 ≤ block_count m)
-check-passed m images e = go (eqb (length images) 16384) refl (leb 129 (block_count m)) refl e
-  where
-    go : (s : Bool) → eqb (length images) 16384 ≡ s → (t : Bool) → leb 129 (block_count m) ≡ t
-        → check (not s) (report (WrongLength (length images))) (check (not t) (report TooShort) None) ≡ None → (length images ≡ 16384) × (129 ≤ block_count m)
-    go true a true b h = (eqb-true (length images) 16384 a, leb-true 129 (block_count m) b)
-    go true a false b h = absurd (let z : ◌≡◌ {A = ℕ} 0 1 = cc in omega arith)
-    go false a t b h = absurd (let z : ◌≡◌ {A = ℕ} 0 1 = cc in omega arith)
-
--- refused by them, an install changes nothing
-pub check-refused : (m : Device) (plan : List ℕ) (set' : ℕ) (images : List ℕ) (r : Report) → install_check m images ≡ Some r → Installed (store_on m) plan set' images (Some r) (store_on m)
-check-refused m plan set' images r e = (Passes, go (eqb (length images) 16384) refl (leb 129 (block_count m)) refl e)
-  where
-    go : (s : Bool) → eqb (length images) 16384 ≡ s → (t : Bool) → leb 129 (block_count m) ≡ t
-        → check (not s) (report (WrongLength (length images))) (check (not t) (report TooShort) None) ≡ Some r → InstalledBy Passes (store_on m) plan set' images (Some r) (store_on m)
-    go true a true b h = absurd (let z : ◌≡◌ {A = ℕ} 0 1 = cc in omega arith)
-    go true a false b h = subst (λ s. InstalledBy Passes s plan set' images (Some r) s) (sym (store-short m (leb-false 129 (block_count m) b)))
-        (record { possible = tt; answer = sym h ∙ sym (rw a refl); after = sym (rw a (none (not (eqb set' 0)))) })
-      where
-        none : (t : Bool) → cond ((true && t) && false) (end_store Passes set' images (with_state (λ _. blank) Short)) (with_state (λ _. blank) Short) ≡ with_state (λ _. blank) Short
-        none true = refl
-        none false = refl
-    go false a t b h = record { possible = tt; answer = sym h ∙ sym (rw a refl); after = sym (rw a refl) }
-
 -- an empty set passes, and changes nothing
-pub empty_installs : (m : Device) (plan : List ℕ) (images : List ℕ) → install_check m images ≡ None → (set' : ℕ) → set' ≡ 0 → Installed (store_on m) plan set' images None (store_on m)
-empty_installs m plan images e set' z =
-    let p = check-passed m images e in (
-      Passes,
-      subst (λ s. InstalledBy Passes s plan set' images None s) (sym (store_long m p.1))
-          (record {
-            possible = tt;
-            answer = sym (rw (eq-eqb (length images) 16384 p.0, eq-eqb set' 0 z) (live m.live));
-            after = sym (rw (eq-eqb (length images) 16384 p.0, eq-eqb set' 0 z) refl);
-          }),
-    )
+empty_installs : (m : Device) (plan : List ℕ) (images : List ℕ) → length images ≡ 16384 → 129 ≤ block_count m → (set' : ℕ) → set' ≡ 0 → Installed (store_on m) plan set' images None (store_on m)
+empty_installs m plan images long room set' z = (
+  Passes,
+  subst (λ s. InstalledBy Passes s plan set' images None s) (sym (store_long m room))
+      (record {
+        possible = tt;
+        answer = sym (rw (eq-eqb (length images) 16384 long, eq-eqb set' 0 z) (live m.live));
+        after = sym (rw (eq-eqb (length images) 16384 long, eq-eqb set' 0 z) refl);
+      }),
+)
   where
     live : (l : Bool) → check (is_short (cond l Live Dead)) (report TooShort) None ≡ None
     live true = refl
     live false = refl
 
--- ---- the two stores
+-- ---- the two ways of installing
 
-module _ (m m' : Device) (set' : ℕ) (within : set' < 2 ^ 64) (images : List ℕ) (allowed : install_check m images ≡ None) where
-  long : length images ≡ 16384
-  long = (check-passed m images allowed).0
+-- what a way of installing promises of a run of its writes
+abbrev pub Done : (List (List ℕ) → ℕ → List ℕ → List Write) → (List (List ℕ) → ℕ → List ℕ) → Device → Device → ℕ → List ℕ → Option Report → Type 0
+Done writes plan m m' set' images o =
+    Ran m (writes m.blocks set' images) o m' × (129 ≤ block_count m → Installed (store_on m) (plan m.blocks set') set' images o (store_on m'))
 
-  room : 129 ≤ block_count m
-  room = (check-passed m images allowed).1
-
+module _ (m : Device) (set' : ℕ) (images : List ℕ) (long : length images ≡ 16384) where
   -- nothing is written for an empty set
-  idle : (ws : List Write) (plan : List ℕ) (o : Option Report) → set' ≡ 0 → ws ≡ [] → Ran m ws o m' → Installed (store_on m) plan set' images o (store_on m')
-  idle ws plan o z e r =
-      let s = ran-nothing (subst (λ vs. Ran m vs o m') e r) refl in
-      subst (λ q. Installed (store_on m) plan set' images q (store_on m')) (sym s.0)
-      (subst (λ x. Installed (store_on m) plan set' images None (store_on x)) (sym s.1) (empty_installs m plan images allowed set' z))
+  pub journal_idle : set' ≡ 0 → Done journal_writes journal_plan m m set' images None
+  journal_idle z = (
+    subst (λ ws. Ran m ws None m) (sym (journal_none m.blocks set' images z)) done,
+    λ room. empty_installs m (journal_plan m.blocks set') images long room set' z,
+  )
 
-  module _ (whole : Whole m) where
-    pub journal_run : (o : Option Report) → Ran m (journal_writes m.blocks set' images) o m' → Installed (store_on m) (journal_plan m.blocks set') set' images o (store_on m')
-    journal_run o r = elim (cases_eq set' 0) [
-      | inl z ↦ idle (journal_writes m.blocks set' images) (journal_plan m.blocks set') o z (journal_none m.blocks set' images z) r
-      | inr some ↦
-          let parts = journal_some m.blocks set' images some in
-          let plan = subst (λ ws. Installs m.blocks ws (installed set' images (page_in m.blocks))) (sym parts) (journal_installs m.blocks room set' within images long whole some) in
-          subst (λ bs. Installed (store_on m) bs set' images o (store_on m')) (journal_plan_lem m.blocks set' images)
-          (ran-installs m m' room set' images long some (journal_writes m.blocks set' images) (subst (λ ws. 0 < length ws) (sym parts) (longer (settle_writes m.blocks) (image_writes every_page set' (pictured images)) (set_write set') (image_writes 0 set' (pictured images) ++ (set_write 0 ∷ [])))) plan o r)
-    ]
+  pub shadow_idle : set' ≡ 0 → Done shadow_writes shadow_plan m m set' images None
+  shadow_idle z = (
+    subst (λ ws. Ran m ws None m) (sym (shadow_none m.blocks set' images z)) done,
+    λ room. empty_installs m (shadow_plan m.blocks set') images long room set' z,
+  )
+
+  module _ (m' : Device) (some : set' ≡ 0 → ⊥) (within : set' < 2 ^ 64) (o : Option Report) where
+    pub journal_done : Whole m → Ran m (settle_writes m.blocks ++ (image_writes every_page set' (pictured images) ++ (set_write set' ∷ (image_writes 0 set' (pictured images) ++ (set_write 0 ∷ []))))) o m'
+        → Done journal_writes journal_plan m m' set' images o
+    journal_done whole r =
+        let parts = journal_some m.blocks set' images some in
+        let ran = subst (λ ws. Ran m ws o m') (sym parts) r in (
+          ran,
+          λ room.
+              let plan = subst (λ ws. Installs m.blocks ws (installed set' images (page_in m.blocks))) (sym parts) (journal_installs m.blocks room set' within images long whole some) in
+              subst (λ bs. Installed (store_on m) bs set' images o (store_on m')) (journal_plan_lem m.blocks set' images)
+              (ran-installs m m' room set' images long some (journal_writes m.blocks set' images) (subst (λ ws. 0 < length ws) (sym parts) (longer (settle_writes m.blocks) (image_writes every_page set' (pictured images)) (set_write set') (image_writes 0 set' (pictured images) ++ (set_write 0 ∷ [])))) plan o ran),
+        )
       where
         longer : (us vs : List Write) (w : Write) (ws : List Write) → 0 < length (us ++ (vs ++ (w ∷ ws)))
         longer us vs w ws = omega (arith, length-append us (vs ++ (w ∷ ws)), length-append vs (w ∷ ws))
 
-  module _ (low : set_in m.blocks < 2 ^ 64) where
-    pub shadow_run : (o : Option Report) → Ran m (shadow_writes m.blocks set' images) o m' → Installed (store_on m) (shadow_plan m.blocks set') set' images o (store_on m')
-    shadow_run o r = elim (cases_eq set' 0) [
-      | inl z ↦ idle (shadow_writes m.blocks set' images) (shadow_plan m.blocks set') o z (shadow_none m.blocks set' images z) r
-      | inr some ↦
-          let parts = shadow_some m.blocks set' images some in
-          let plan = subst (λ ws. Installs m.blocks ws (installed set' images (page_in m.blocks))) (sym parts) (shadow_installs m.blocks room set' within images long low some) in
-          subst (λ bs. Installed (store_on m) bs set' images o (store_on m')) (shadow_plan_lem m.blocks set' images)
-          (ran-installs m m' room set' images long some (shadow_writes m.blocks set' images) (subst (λ ws. 0 < length ws) (sym parts) (longer (image_writes (bit_xor (set_in m.blocks) every_page) set' (pictured images)) (set_write (bit_xor (set_in m.blocks) set')))) plan o r)
-    ]
+    pub shadow_done : (upper : ℕ) → upper < 2 ^ 64 → upper ≡ set_in m.blocks → Ran m (image_writes (bit_xor upper every_page) set' (pictured images) ++ (set_write (bit_xor upper set') ∷ [])) o m'
+        → Done shadow_writes shadow_plan m m' set' images o
+    shadow_done upper low here r =
+        let parts = shadow_some m.blocks set' images some in
+        let low' : set_in m.blocks < 2 ^ 64 = subst (λ u. u < 2 ^ 64) here low in
+        let ran = subst (λ ws. Ran m ws o m') (ap (λ u. image_writes (bit_xor u every_page) set' (pictured images) ++ (set_write (bit_xor u set') ∷ [])) here ∙ sym parts) r in (
+          ran,
+          λ room.
+              let plan = subst (λ ws. Installs m.blocks ws (installed set' images (page_in m.blocks))) (sym parts) (shadow_installs m.blocks room set' within images long low' some) in
+              subst (λ bs. Installed (store_on m) bs set' images o (store_on m')) (shadow_plan_lem m.blocks set' images)
+              (ran-installs m m' room set' images long some (shadow_writes m.blocks set' images) (subst (λ ws. 0 < length ws) (sym parts) (longer (image_writes (bit_xor (set_in m.blocks) every_page) set' (pictured images)) (set_write (bit_xor (set_in m.blocks) set')))) plan o ran),
+        )
       where
         longer : (us : List Write) (w : Write) → 0 < length (us ++ (w ∷ []))
         longer us w = omega (arith, length-append us (w ∷ []))
-
--- an install that was carried out, told block by block
-pub carried : (m m' : Device) (ws : List Write) (images : List ℕ) (o : Option Report) → install_check m images ≡ None → Ran m ws o m' → Carried m ws images o m'
-carried m m' ws images o e r = rw e r

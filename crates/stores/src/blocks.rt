@@ -1,8 +1,9 @@
 // The blocks of a store: images in 0 to 127, two for each page, and a set in block 128.
-ghost use Rattle.std.specs.Prelude.{◌≡◌, ℕ, ◌<◌, ◌≤◌, [], ◌∷◌, length};
+ghost use Rattle.std.specs.Prelude.{◌≡◌, ◌<◌, ◌≤◌, [], ◌∷◌, None, not, nat_le, IfOk};
 ghost use Rattle.sets.specs.Sets.{has};
-ghost use Rattle.faults.specs.Faults.{refusal};
-ghost use Rattle.media.specs.Media.{block_count, block_at, Whole};
+ghost use Rattle.faults.specs.Faults.{refusal, report};
+ghost use Rattle.faults.specs.declared.fault.Fault.TheVariants.{TooShort};
+ghost use Rattle.media.specs.Media.{block_count, block_at, check};
 ghost use Rattle.media.specs.Plans.{Ran};
 ghost use Rattle.stores.specs.Images.{image_of, pictured};
 ghost use Rattle.stores.specs.Layout.{slot, set_in, block_of_set};
@@ -41,19 +42,18 @@ pub(crate) fn slot_of(upper: u64, page: u32) -> usize
 }
 
 // Reads the image in a block.
-pub(crate) fn load_image<M: Medium>(medium: &M, block: usize, buffer: &mut [u8])
+pub(crate) fn load_image<M: Medium>(medium: &M, block: usize) -> [u8; BLOCK]
     requires there { block < block_count (M.Medium.model medium.now) }
-    requires long { length buffer.old ≡ 256 }
-    ensures image { buffer.new ≡ image_of (block_at (M.Medium.model medium.now) block) }
+    ensures { result ≡ image_of (block_at (M.Medium.model medium.now) block) }
 {
-    let zeros = [0u8; BLOCK - STORED];
-    let _ = medium.read(block, buffer);
-    buffer[STORED..BLOCK].copy_from_slice(&zeros);
+    let mut image = [0u8; BLOCK];
+    let _ = medium.read(block, &mut image);
+    image[STORED..].fill(0);
+    image
 }
 
-// Reads the set in block 128.
+// Reads the set in block 128; the empty set where there is no such block.
 pub(crate) fn load_set<M: Medium>(medium: &M) -> u64
-    requires there { 129 ≤ block_count (M.Medium.model medium.now) }
     ensures { result ≡ set_in (M.Medium.model medium.now).blocks }
 {
     let mut block = [0u8; BLOCK];
@@ -79,9 +79,8 @@ pub(crate) fn write_set<M: Medium>(medium: &mut M, set: u64) -> Result<(), Fault
 }
 
 // The image of a page, out of all 64.
-fn picture(images: &[u8], page: u32) -> [u8; BLOCK]
+fn picture(images: &[u8; IMAGES], page: u32) -> [u8; BLOCK]
     requires page { page < 64 }
-    requires long { length images.now ≡ 16384 }
     ensures { result ≡ pictured images.now page }
 {
     let at = page as usize * BLOCK;
@@ -95,11 +94,10 @@ pub(crate) fn put_image<M: Medium>(
     medium: &mut M,
     upper: u64,
     set: u64,
-    images: &[u8],
+    images: &[u8; IMAGES],
     page: u32,
 ) -> Result<(), Fault>
     requires page { page < 64 }
-    requires long { length images.now ≡ 16384 }
     ensures ran { Ran (M.Medium.model medium.old) (of_page upper set (pictured images.now) page) (refusal result) (M.Medium.model medium.new) }
 {
     if !contains(set, page) {
@@ -114,9 +112,8 @@ pub(crate) fn write_images<M: Medium>(
     medium: &mut M,
     upper: u64,
     set: u64,
-    images: &[u8],
+    images: &[u8; IMAGES],
 ) -> Result<(), Fault>
-    requires long { length images.now ≡ 16384 }
     ensures ran { Ran (M.Medium.model medium.old) (image_writes upper set (pictured images.now)) (refusal result) (M.Medium.model medium.new) }
 {
     for page in 0..PAGES {
@@ -134,9 +131,8 @@ fn bring_home<M: Medium>(medium: &mut M, mark: u64, page: u32) -> Result<(), Fau
     if !contains(mark, page) {
         return Ok(());
     }
-    let mut block = [0u8; BLOCK];
-    load_image(medium, slot_of(EVERY_PAGE, page), &mut block);
-    medium.write(slot_of(0, page), &block)
+    let image = load_image(medium, slot_of(EVERY_PAGE, page));
+    medium.write(slot_of(0, page), &image)
 }
 
 // Reads the image of a page, live or dead.
@@ -150,10 +146,9 @@ pub(crate) fn read_page<M: Medium>(medium: &M, page: u32, buffer: &mut [u8]) -> 
     if buffer.len() != BLOCK {
         return Err(Fault::WrongLength(buffer.len()));
     }
-    if medium.count() < STORE_BLOCKS {
-        return Err(Fault::TooShort);
-    }
-    load_image(medium, slot_of(load_set(medium), page), buffer);
+    long_enough(medium)?;
+    let image = load_image(medium, slot_of(load_set(medium), page));
+    buffer.copy_from_slice(&image);
     Ok(())
 }
 
@@ -170,7 +165,6 @@ fn bring_all_home<M: Medium>(medium: &mut M, mark: u64) -> Result<(), Fault>
 
 // Settles a mark that is not empty: copies its pages home and clears it.
 pub(crate) fn settle<M: Medium>(medium: &mut M) -> Result<(), Fault>
-    requires there { 129 ≤ block_count (M.Medium.model medium.old) }
     ensures ran { Ran (M.Medium.model medium.old) (settle_writes (M.Medium.model medium.old).blocks) (refusal result) (M.Medium.model medium.new) }
 {
     let mark = load_set(medium);
@@ -181,16 +175,24 @@ pub(crate) fn settle<M: Medium>(medium: &mut M) -> Result<(), Fault>
     write_set(medium, 0)
 }
 
-// The checks of an install ahead of its writes: all 64 images, and blocks enough.
-pub(crate) fn install_allowed<M: Medium>(medium: &M, images: &[u8]) -> Result<(), Fault>
+// The checks of an install ahead of its writes: all 64 images, and blocks enough. Gives the images.
+pub(crate) fn install_allowed<'a, M: Medium>(
+    medium: &M,
+    images: &'a [u8],
+) -> Result<&'a [u8; IMAGES], Fault>
     ensures answer { refusal result ≡ install_check (M.Medium.model medium.now) images.now }
-    ensures whole { Whole (M.Medium.model medium.now) }
+    ensures images { IfOk result (λ all. all.now ≡ images.now) }
 {
-    let count = medium.count();
-    if images.len() != IMAGES {
-        return Err(Fault::WrongLength(images.len()));
-    }
-    if count < STORE_BLOCKS {
+    let all = images.as_array().ok_or(Fault::WrongLength(images.len()))?;
+    long_enough(medium)?;
+    Ok(all)
+}
+
+// A medium with fewer blocks than a store needs makes it short.
+fn long_enough<M: Medium>(medium: &M) -> Result<(), Fault>
+    ensures { refusal result ≡ check (not (nat_le 129 (block_count (M.Medium.model medium.now)))) (report TooShort) None }
+{
+    if medium.count() < STORE_BLOCKS {
         return Err(Fault::TooShort);
     }
     Ok(())

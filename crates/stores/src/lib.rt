@@ -3,9 +3,11 @@
 
 mod blocks;
 mod journal;
+mod on_medium;
 mod shadow;
 mod store;
 
-pub use journal::JournalStore;
-pub use shadow::ShadowStore;
+pub use journal::{Journal, JournalStore};
+pub use on_medium::{MediumStore, Way};
+pub use shadow::{Shadow, ShadowStore};
 pub use store::PageStore;

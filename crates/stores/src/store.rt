@@ -6,21 +6,16 @@ ghost use Rattle.stores.specs.Stores.{Store, read_fault, read_into, Installed, p
 use faults::Fault;
 
 pub trait PageStore {
-    // how many blocks the store needs
+    // how many blocks the store needs; on fewer it is short
     const BLOCKS: usize;
 
-    // the same number for contracts
-    ghost needs: { ℕ };
+    ghost BLOCKS: { ℕ };
 
     // the images and the state
     ghost meaning: { Self → Store };
 
     // the blocks that an install of a set writes, in order
     ghost plan: { Self → ℕ → List ℕ };
-
-    // How many blocks the store needs; on fewer it is short.
-    fn blocks_needed() -> usize
-        ensures { result ≡ needs };
 
     // Reads one image, live or dead.
     fn read(&self, page: u32, buffer: &mut [u8]) -> Result<(), Fault>
