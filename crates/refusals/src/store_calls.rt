@@ -84,6 +84,6 @@ fn shadow_store_refuses_in_order(rt: HostRuntime) {
 
 #[test]
 fn stores_need_129_blocks(rt: HostRuntime) {
-    assert_eq!(rt; JournalStore::<MemoryMedium>::blocks_needed(), 129);
-    assert_eq!(rt; ShadowStore::<MemoryMedium>::blocks_needed(), 129);
+    assert_eq!(rt; JournalStore::<MemoryMedium>::BLOCKS, 129);
+    assert_eq!(rt; ShadowStore::<MemoryMedium>::BLOCKS, 129);
 }
