@@ -12,7 +12,7 @@ ghost use Rattle.stores.specs.Plans.{image_writes, set_write, of_page, every_pag
 
 use faults::Fault;
 use media::{BLOCK, Medium};
-use sets::{contains, put_u64, u64_at};
+use sets::{Number, Page, contains};
 
 // How many pages there are.
 pub(crate) const PAGES: u32 = 64;
@@ -32,13 +32,13 @@ pub(crate) const STORE_BLOCKS: usize = 129;
 pub(crate) const EVERY_PAGE: u64 = u64::MAX;
 
 // The block of a page: upper where the page is in `upper`.
-pub(crate) fn slot_of(upper: u64, page: u32) -> usize
-    ensures { result ≡ slot upper page }
+fn slot_of(upper: u64, page: Page) -> usize
+    ensures { result ≡ slot upper page.number }
 {
-    if contains(upper, page) {
-        return 64 + page as usize;
+    if contains(upper, page.number) {
+        return 64 + page.index();
     }
-    page as usize
+    page.index()
 }
 
 // Reads the image in a block.
@@ -58,7 +58,7 @@ pub(crate) fn load_set<M: Medium>(medium: &M) -> u64
 {
     let mut block = [0u8; BLOCK];
     let _ = medium.read(SET_BLOCK, &mut block);
-    u64_at(&block, 0)
+    u64::read_at(&block, 0)
 }
 
 // The block that holds a set.
@@ -66,7 +66,7 @@ fn set_block(set: u64) -> [u8; BLOCK]
     ensures { result ≡ block_of_set set }
 {
     let mut block = [0u8; BLOCK];
-    put_u64(&mut block, 0, set);
+    set.write_at(&mut block, 0);
     block
 }
 
@@ -79,11 +79,10 @@ pub(crate) fn write_set<M: Medium>(medium: &mut M, set: u64) -> Result<(), Fault
 }
 
 // The image of a page, out of all 64.
-fn picture(images: &[u8; IMAGES], page: u32) -> [u8; BLOCK]
-    requires page { page < 64 }
-    ensures { result ≡ pictured images.now page }
+fn picture(images: &[u8; IMAGES], page: Page) -> [u8; BLOCK]
+    ensures { result ≡ pictured images.now page.number }
 {
-    let at = page as usize * BLOCK;
+    let at = page.index() * BLOCK;
     let mut block = [0u8; BLOCK];
     block[0..STORED].copy_from_slice(&images[at..at + STORED]);
     block
@@ -95,12 +94,11 @@ pub(crate) fn put_image<M: Medium>(
     upper: u64,
     set: u64,
     images: &[u8; IMAGES],
-    page: u32,
+    page: Page,
 ) -> Result<(), Fault>
-    requires page { page < 64 }
-    ensures ran { Ran (M.Medium.model medium.old) (of_page upper set (pictured images.now) page) (refusal result) (M.Medium.model medium.new) }
+    ensures ran { Ran (M.Medium.model medium.old) (of_page upper set (pictured images.now) page.number) (refusal result) (M.Medium.model medium.new) }
 {
-    if !contains(set, page) {
+    if !contains(set, page.number) {
         return Ok(());
     }
     let block = picture(images, page);
@@ -116,19 +114,18 @@ pub(crate) fn write_images<M: Medium>(
 ) -> Result<(), Fault>
     ensures ran { Ran (M.Medium.model medium.old) (image_writes upper set (pictured images.now)) (refusal result) (M.Medium.model medium.new) }
 {
-    for page in 0..PAGES {
-        put_image(medium, upper, set, images, page)?;
+    for number in 0..PAGES {
+        put_image(medium, upper, set, images, Page { number })?;
     }
     Ok(())
 }
 
 // Copies the staged image of one page home, if the page is in the mark.
-fn bring_home<M: Medium>(medium: &mut M, mark: u64, page: u32) -> Result<(), Fault>
-    requires page { page < 64 }
+fn bring_home<M: Medium>(medium: &mut M, mark: u64, page: Page) -> Result<(), Fault>
     requires there { 129 ≤ block_count (M.Medium.model medium.old) }
-    ensures ran { Ran (M.Medium.model medium.old) (of_page 0 mark (λ p. image_of (block_at (M.Medium.model medium.old) (slot every_page p))) page) (refusal result) (M.Medium.model medium.new) }
+    ensures ran { Ran (M.Medium.model medium.old) (of_page 0 mark (λ p. image_of (block_at (M.Medium.model medium.old) (slot every_page p))) page.number) (refusal result) (M.Medium.model medium.new) }
 {
-    if !contains(mark, page) {
+    if !contains(mark, page.number) {
         return Ok(());
     }
     let image = load_image(medium, slot_of(EVERY_PAGE, page));
@@ -140,15 +137,11 @@ pub(crate) fn read_page<M: Medium>(medium: &M, page: u32, buffer: &mut [u8]) -> 
     ensures answer { refusal result ≡ read_fault (store_on (M.Medium.model medium.now)) page buffer.old }
     ensures buffer { buffer.new ≡ read_into (store_on (M.Medium.model medium.now)) page buffer.old }
 {
-    if page >= PAGES {
-        return Err(Fault::NoSuchPage(page));
-    }
-    if buffer.len() != BLOCK {
-        return Err(Fault::WrongLength(buffer.len()));
-    }
+    let page = Page::new(page).ok_or(Fault::NoSuchPage(page))?;
+    let length = buffer.len();
+    let image: &mut [u8; BLOCK] = buffer.as_mut_array().ok_or(Fault::WrongLength(length))?;
     long_enough(medium)?;
-    let image = load_image(medium, slot_of(load_set(medium), page));
-    buffer.copy_from_slice(&image);
+    *image = load_image(medium, slot_of(load_set(medium), page));
     Ok(())
 }
 
@@ -157,8 +150,8 @@ fn bring_all_home<M: Medium>(medium: &mut M, mark: u64) -> Result<(), Fault>
     requires there { 129 ≤ block_count (M.Medium.model medium.old) }
     ensures ran { Ran (M.Medium.model medium.old) (image_writes 0 mark (λ p. image_of (block_at (M.Medium.model medium.old) (slot every_page p)))) (refusal result) (M.Medium.model medium.new) }
 {
-    for page in 0..PAGES {
-        bring_home(medium, mark, page)?;
+    for number in 0..PAGES {
+        bring_home(medium, mark, Page { number })?;
     }
     Ok(())
 }

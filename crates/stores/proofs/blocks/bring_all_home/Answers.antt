@@ -10,41 +10,41 @@ use Rattle.stores.specs.Plans.{every_page}
 use Rattle.stores.proofs.PlanLaws.{up_to, run_none, run_more, run-cut, next-home}
 use Rattle.stores.proofs.blocks.bring_all_home.Goals as goal
 
-pub loop-page-init : goal.loop-page-init
-loop-page-init g c =
+pub loop-number-init : goal.loop-number-init
+loop-number-init g c =
     let m = g.M.Medium.model c.args.medium.now in
     run_none 0 c.args.mark (λ p. image_of (block_at m (slot every_page p))) m
 
 pub bring_home-requires : goal.bring_home-requires
-bring_home-requires g c = record { page = omega arith; there = omega (arith, ran-count c.loop-page.invariant, c.requires.there) }
+bring_home-requires g c = record { there = omega (arith, ran-count c.loop-number.invariant, c.requires.there) }
 
-pub loop-page-preserved : goal.loop-page-preserved
-loop-page-preserved g c =
+pub loop-number-preserved : goal.loop-number-preserved
+loop-number-preserved g c =
     let m = g.M.Medium.model c.args.medium.now in
-    let m₁ = g.M.Medium.model c.loop-page.medium in
+    let m₁ = g.M.Medium.model c.loop-number.medium in
     let m' = g.M.Medium.model c.bring_home.new.medium in
     let f = λ (p : ℕ). image_of (block_at m (slot every_page p)) in
-    let n = c.loop-page.page in
-    run_more 0 c.args.mark f n m m₁ m' c.loop-page.invariant
-    (subst (λ ws. Ran m₁ ws None m') (next-home c.args.mark m m₁ f n (omega arith) c.loop-page.invariant) c.in_ok-bring_home.ensures.ran)
+    let n = c.loop-number.number in
+    run_more 0 c.args.mark f n m m₁ m' c.loop-number.invariant
+    (subst (λ ws. Ran m₁ ws None m') (next-home c.args.mark m m₁ f n (omega arith) c.loop-number.invariant) c.in_ok-bring_home.ensures.ran)
 
 pub returns-in_err-bring_home : goal.returns-in_err-bring_home
 returns-in_err-bring_home g c =
     let m = g.M.Medium.model c.args.medium.now in
-    let m₁ = g.M.Medium.model c.loop-page.medium in
+    let m₁ = g.M.Medium.model c.loop-number.medium in
     let m' = g.M.Medium.model c.bring_home.new.medium in
     let f = λ (p : ℕ). image_of (block_at m (slot every_page p)) in
-    let n = c.loop-page.page in
+    let n = c.loop-number.number in
     let x = report c.in_err-bring_home.field-0.0 in
     let p = err_from_is_err_and c.from_residual.result c.from_residual.ensures.1 in
     record {
       ran = rw (p.1, p.2)
-          (run-cut 0 c.args.mark f n m m₁ m' x (omega arith) c.loop-page.invariant
-          (subst (λ ws. Ran m₁ ws (Some x) m') (next-home c.args.mark m m₁ f n (omega arith) c.loop-page.invariant) c.in_err-bring_home.ensures.ran));
+          (run-cut 0 c.args.mark f n m m₁ m' x (omega arith) c.loop-number.invariant
+          (subst (λ ws. Ran m₁ ws (Some x) m') (next-home c.args.mark m m₁ f n (omega arith) c.loop-number.invariant) c.in_err-bring_home.ensures.ran));
     }
 
 pub returns : goal.returns
 returns g c =
     let m = g.M.Medium.model c.args.medium.now in
-    let end : c.loop-page.page ≡ 64 = omega arith in
-    record { ran = subst (λ n. Ran m (up_to 0 c.args.mark (λ p. image_of (block_at m (slot every_page p))) n) None (g.M.Medium.model c.loop-page.medium)) end c.loop-page.invariant }
+    let end : c.loop-number.number ≡ 64 = omega arith in
+    record { ran = subst (λ n. Ran m (up_to 0 c.args.mark (λ p. image_of (block_at m (slot every_page p))) n) None (g.M.Medium.model c.loop-number.medium)) end c.loop-number.invariant }

@@ -11,13 +11,13 @@ use Rattle.stores.proofs.blocks.bring_home.Goals as goal
 pub returns-then-not-contains : goal.returns-then-not-contains
 returns-then-not-contains g c =
     let m = g.M.Medium.model c.args.medium.now in
-    record { ran = page-out 0 c.args.mark (λ p. image_of (block_at m (slot every_page p))) c.args.page m (sym c.if-not-contains.ensures) }
+    record { ran = page-out 0 c.args.mark (λ p. image_of (block_at m (slot every_page p))) c.args.page.number m (sym c.if-not-contains.ensures) }
 
 pub returns : goal.returns
 returns g c =
     let m = g.M.Medium.model c.args.medium.now in
     let m' = g.M.Medium.model c.write.new.self in
-    let p = c.args.page in
+    let p = c.args.page.number in
     let o = refusal c.write.result in
     record {
       ran = page-in 0 c.args.mark (λ p. image_of (block_at m (slot every_page p))) p m m' o (sym c.if-not-contains.ensures)
