@@ -24,6 +24,13 @@ ran-cut vs r done e = absurd (let z : ◌≡◌ {A = ℕ} 0 1 = cc in omega arit
 ran-cut vs r (stops f w) e = stops f w
 ran-cut vs r (goes f w rest) e = goes f w (ran-cut vs r rest e)
 
+-- the same of a run that passes, and of one that is refused
+pub ran_then : {m m₁ m' : Device} {ws vs : List Write} {o : Option Report} → Ran m ws None m₁ → Ran m₁ vs o m' → Ran m (ws ++ vs) o m'
+ran_then r s = ran_append r refl s
+
+pub ran_refused : (vs : List Write) {r : Report} {m m' : Device} {ws : List Write} → Ran m ws (Some r) m' → Ran m (ws ++ vs) (Some r) m'
+ran_refused vs {r} s = ran-cut vs r s refl
+
 -- one write
 pub ran-one : (w : Write) (m m' : Device) (o : Option Report) (f : Fate) → WroteBy f m w.block w.bytes o m' → Ran m (w ∷ []) o m'
 ran-one w m m' None f h = goes f h done

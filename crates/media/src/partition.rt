@@ -2,7 +2,7 @@
 ghost use Rattle.std.specs.Prelude.{◌≡◌, ℕ, ◌+◌, ◌^◌, ◌<◌};
 ghost use Rattle.faults.specs.Faults.{refusal, report};
 ghost use Rattle.media.specs.Media.{Wrote, powered, block_count};
-ghost use Rattle.media.specs.Parts.{part_of, retell, SameOutside};
+ghost use Rattle.media.specs.Parts.{part, retell, SameOutside};
 ghost use Rattle.media.specs.WholeLaws.{part-whole};
 
 use crate::medium::Medium;
@@ -44,7 +44,7 @@ impl<M: Medium> Partition<M> {
 
     // How many blocks the partition has: none where the medium is too short for it.
     fn length(&self) -> usize
-        ensures count { result ≡ block_count (part_of self.now.first self.now.blocks (M.Medium.model self.now.medium)) }
+        ensures count { result ≡ block_count (part M.Medium.model self.now) }
         ensures room { (b : ℕ) → b < result → self.now.first + b < 2 ^ 64 }
     {
         let count = self.medium.count();
@@ -66,7 +66,7 @@ fn retold(fault: Fault, block: usize) -> Fault
 }
 
 impl<M: Medium> Medium for Partition<M> {
-    ghost model = { λ p. part_of p.first p.blocks (M.Medium.model p.medium) };
+    ghost model = { part M.Medium.model };
 
     ghost whole = { λ p. part-whole p.first p.blocks (M.Medium.model p.medium) (M.Medium.whole p.medium) };
 
@@ -82,7 +82,7 @@ impl<M: Medium> Medium for Partition<M> {
     }
 
     fn write(&mut self, block: usize, data: &[u8]) -> Result<(), Fault>
-        ensures wrote { Wrote (part_of self.old.first self.old.blocks (M.Medium.model self.old.medium)) block «data».now (refusal result) (part_of self.new.first self.new.blocks (M.Medium.model self.new.medium)) }
+        ensures wrote { Wrote (part M.Medium.model self.old) block «data».now (refusal result) (part M.Medium.model self.new) }
         ensures outside { SameOutside self.old.first self.old.blocks (M.Medium.model self.old.medium) (M.Medium.model self.new.medium) }
         ensures first { self.new.first ≡ self.old.first }
         ensures blocks { self.new.blocks ≡ self.old.blocks }
@@ -96,7 +96,7 @@ impl<M: Medium> Medium for Partition<M> {
     }
 
     fn power_on(&mut self)
-        ensures after { part_of self.new.first self.new.blocks (M.Medium.model self.new.medium) ≡ powered (part_of self.old.first self.old.blocks (M.Medium.model self.old.medium)) }
+        ensures after { part M.Medium.model self.new ≡ powered (part M.Medium.model self.old) }
         ensures below { M.Medium.model self.new.medium ≡ powered (M.Medium.model self.old.medium) }
         ensures first { self.new.first ≡ self.old.first }
         ensures blocks { self.new.blocks ≡ self.old.blocks }

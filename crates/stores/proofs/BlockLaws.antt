@@ -1,11 +1,8 @@
 -- What the code puts into a block, as the definitions have it.
 use Rattle.std.proofs.Common.{◌≡◌, ℕ, ◌+◌, ◌-◌, ◌*◌, List, ◌++◌, length, take, drop, replicate, sym, ap, ◌∙◌, ap₂, arith}
 use borrow.Rule.Slice.PartMut.{put_mid}
-use Rattle.std.proofs.lemmas.List.{take_all, take-take, drop_all, append-nil, length-take, length-drop}
-use Rattle.sets.specs.Words.{bytes_of, over}
-use Rattle.sets.proofs.WordLaws.{bytes-length}
+use Rattle.std.proofs.lemmas.List.{take-take, drop_all, append-nil, length-take, length-drop}
 use Rattle.stores.specs.Images.{image_of, pictured}
-use Rattle.stores.specs.Layout.{block_of_set}
 
 -- the tail of a block cleared
 pub tail_cleared : (block zeros : List ℕ) → length block ≡ 256 → zeros ≡ replicate (length (take 28 (drop 228 block))) 0 → put_mid 228 28 block zeros ≡ image_of block
@@ -21,7 +18,3 @@ image-front images front p e =
     let c : p * 256 ≡ 256 * p = omega arith in
     ap (λ x. x ++ replicate 28 0)
     (e ∙ ap (λ n. take n (drop (p * 256) images)) k ∙ ap (λ n. take 228 (drop n images)) c ∙ sym (take-take 228 256 (drop (256 * p) images) (omega arith)))
-
--- a set over a block of zeros
-pub set-over : (s : ℕ) → over 0 (bytes_of 8 s) (replicate 256 0) ≡ block_of_set s
-set-over s = ap (λ x. x ++ replicate 248 0) (take_all 256 (bytes_of 8 s) (omega (arith, bytes-length 8 s)))

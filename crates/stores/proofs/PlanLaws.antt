@@ -11,7 +11,7 @@ use Rattle.faults.specs.Faults.{Report}
 use Rattle.media.specs.Media.{Device, block_at}
 use Rattle.media.specs.Plans.Ran.{done}
 use Rattle.media.specs.Plans.{Write, Ran, put, puts, Fitting, Throughout}
-use Rattle.media.proofs.PlanLaws.{ran_append, ran-cut, ran-keeps, throughout-append, throughout-last, throughout-weaker, puts-append, length-puts, fitting-append, atomic}
+use Rattle.media.proofs.PlanLaws.{ran_then, ran_refused, ran-keeps, throughout-append, throughout-last, throughout-weaker, puts-append, length-puts, fitting-append, atomic}
 use Rattle.stores.specs.Images.{image_of, pictured}
 use Rattle.stores.specs.Layout.{block_in, set_in, block_of_set, slot, page_in}
 use Rattle.stores.specs.Stores.{installed}
@@ -68,13 +68,13 @@ module _ (u s : ℕ) (f : ℕ → List ℕ) where
   run_none m = subst (λ ws. Ran m ws None m) (sym up_to-none) done
 
   pub run_more : (n : ℕ) (m m₁ m' : Device) → Ran m (up_to n) None m₁ → Ran m₁ (of_page u s f n) None m' → Ran m (up_to (n + 1)) None m'
-  run_more n m m₁ m' r q = subst (λ ws. Ran m ws None m') (sym (up_to-more n)) (ran_append r refl q)
+  run_more n m m₁ m' r q = subst (λ ws. Ran m ws None m') (sym (up_to-more n)) (ran_then r q)
 
   -- one page is refused, and with it the whole
   pub run-cut : (n : ℕ) (m m₁ m' : Device) (x : Report) → n < 64 → Ran m (up_to n) None m₁ → Ran m₁ (of_page u s f n) (Some x) m' → Ran m (up_to 64) (Some x) m'
   run-cut n m m₁ m' x l r q =
       let rest = up_to-rest (n + 1) 64 (omega arith) in
-      subst (λ ws. Ran m ws (Some x) m') (sym (rest.1 ∙ ap (λ vs. vs ++ rest.0) (up_to-more n))) (ran-cut rest.0 x (ran_append r refl q) refl)
+      subst (λ ws. Ran m ws (Some x) m') (sym (rest.1 ∙ ap (λ vs. vs ++ rest.0) (up_to-more n))) (ran_refused rest.0 (ran_then r q))
 
   -- they write slots that no page uses
   up_to-spare : (bs : List (List ℕ)) (n : ℕ) → n ≤ 64 → ((p : ℕ) → p < 64 → has s p ≡ true → has u p ≡ not (has (set_in bs) p))

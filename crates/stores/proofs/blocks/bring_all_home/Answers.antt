@@ -1,4 +1,4 @@
-use Rattle.std.proofs.Common.{◌≡◌, ℕ, Some, None, subst, arith}
+use Rattle.std.proofs.Common.{ℕ, Some, None, subst, arith}
 use Rattle.std.proofs.lemmas.Result.{err_from_is_err_and}
 use Rattle.faults.specs.Faults.{report}
 use Rattle.media.specs.Media.{block_at}
@@ -7,7 +7,7 @@ use Rattle.media.proofs.PlanLaws.{ran-count}
 use Rattle.stores.specs.Images.{image_of}
 use Rattle.stores.specs.Layout.{slot}
 use Rattle.stores.specs.Plans.{every_page}
-use Rattle.stores.proofs.PlanLaws.{up_to, run_none, run_more, run-cut, next-home}
+use Rattle.stores.proofs.PlanLaws.{run_none, run_more, run-cut, next-home}
 use Rattle.stores.proofs.blocks.bring_all_home.Goals as goal
 
 pub loop-number-init : goal.loop-number-init
@@ -42,9 +42,3 @@ returns-in_err-bring_home g c =
           (run-cut 0 c.args.mark f n m m₁ m' x (omega arith) c.loop-number.invariant
           (subst (λ ws. Ran m₁ ws (Some x) m') (next-home c.args.mark m m₁ f n (omega arith) c.loop-number.invariant) c.in_err-bring_home.ensures.ran));
     }
-
-pub returns : goal.returns
-returns g c =
-    let m = g.M.Medium.model c.args.medium.now in
-    let end : c.loop-number.number ≡ 64 = omega arith in
-    record { ran = subst (λ n. Ran m (up_to 0 c.args.mark (λ p. image_of (block_at m (slot every_page p))) n) None (g.M.Medium.model c.loop-number.medium)) end c.loop-number.invariant }

@@ -1,10 +1,9 @@
-use Rattle.std.proofs.Common.{[], ◌∷◌, Some, None, sym, refl, ◌∙◌, subst}
+use Rattle.std.proofs.Common.{Some, None, sym, ◌∙◌, subst}
 use Rattle.std.proofs.lemmas.Result.{err_from_is_err_and}
 use Rattle.faults.specs.Faults.{report, refusal}
 use Rattle.media.specs.Plans.{Ran}
 use Rattle.media.specs.Plans.Ran.{done}
-use Rattle.media.proofs.PlanLaws.{ran_append, ran-cut}
-use Rattle.stores.specs.Plans.{set_write}
+use Rattle.media.proofs.PlanLaws.{ran_then, ran_refused}
 use Rattle.stores.proofs.PlanLaws.{settle_none, settle_some}
 use Rattle.stores.proofs.blocks.settle.Goals as goal
 
@@ -22,7 +21,7 @@ returns-in_err-bring_all_home g c =
     record {
       ran = rw (p.1, p.2)
           (subst (λ ws. Ran m ws (Some x) m₁) (sym (settle_some m.blocks c.load_set-mark.result c.load_set-mark.ensures c.if-mark-eq0.false))
-          (ran-cut (set_write 0 ∷ []) x c.in_err-bring_all_home.ensures.ran refl));
+          (ran_refused _ c.in_err-bring_all_home.ensures.ran));
     }
 
 pub returns : goal.returns
@@ -31,5 +30,5 @@ returns g c =
     let m' = g.M.Medium.model c.write_set.new.medium in
     record {
       ran = subst (λ ws. Ran m ws (refusal c.write_set.result) m') (sym (settle_some m.blocks c.load_set-mark.result c.load_set-mark.ensures c.if-mark-eq0.false))
-          (ran_append c.in_ok-bring_all_home.ensures.ran refl c.write_set.ensures.ran);
+          (ran_then c.in_ok-bring_all_home.ensures.ran c.write_set.ensures.ran);
     }

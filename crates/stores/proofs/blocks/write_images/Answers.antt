@@ -1,9 +1,8 @@
-use Rattle.std.proofs.Common.{◌≡◌, None, subst, arith}
+use Rattle.std.proofs.Common.{arith}
 use Rattle.std.proofs.lemmas.Result.{err_from_is_err_and}
 use Rattle.faults.specs.Faults.{report}
-use Rattle.media.specs.Plans.{Ran}
 use Rattle.stores.specs.Images.{pictured}
-use Rattle.stores.proofs.PlanLaws.{up_to, run_none, run_more, run-cut}
+use Rattle.stores.proofs.PlanLaws.{run_none, run_more, run-cut}
 use Rattle.stores.proofs.blocks.write_images.Goals as goal
 
 pub loop-number-init : goal.loop-number-init
@@ -24,8 +23,3 @@ returns-in_err-put_image g c =
           (g.M.Medium.model c.args.medium.now) (g.M.Medium.model c.loop-number.medium) (g.M.Medium.model c.put_image.new.medium)
           (report c.in_err-put_image.field-0.0) (omega arith) c.loop-number.invariant c.in_err-put_image.ensures.ran);
     }
-
-pub returns : goal.returns
-returns g c =
-    let end : c.loop-number.number ≡ 64 = omega arith in
-    record { ran = subst (λ n. Ran (g.M.Medium.model c.args.medium.now) (up_to c.args.upper c.args.set (pictured c.args.images.now) n) None (g.M.Medium.model c.loop-number.medium)) end c.loop-number.invariant }

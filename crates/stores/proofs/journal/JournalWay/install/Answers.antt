@@ -1,9 +1,7 @@
-use Rattle.std.proofs.Common.{[], ◌∷◌, ◌++◌, Some, refl}
+use Rattle.std.proofs.Common.{Some}
 use Rattle.std.proofs.lemmas.Result.{err_from_is_err_and}
 use Rattle.faults.specs.Faults.{report, refusal}
-use Rattle.media.proofs.PlanLaws.{ran_append, ran-cut}
-use Rattle.stores.specs.Images.{pictured}
-use Rattle.stores.specs.Plans.{set_write, image_writes, every_page}
+use Rattle.media.proofs.PlanLaws.{ran_then, ran_refused}
 use Rattle.stores.proofs.StoreLaws.{journal_idle, journal_done}
 use Rattle.stores.proofs.journal.JournalWay.install.Goals as goal
 
@@ -14,49 +12,34 @@ returns-then-set-eq0 g c =
 
 pub returns-in_err-settle : goal.returns-in_err-settle
 returns-in_err-settle g c =
-    let s = c.args.set in
-    let f = pictured c.args.images.now in
-    let x = report c.in_err-settle.field-0.0 in
     let p = err_from_is_err_and c.from_residual.result c.from_residual.ensures.1 in
-    let r = journal_done (g.M.Medium.model c.args.medium.now) s c.args.images.now c.told-images (g.M.Medium.model c.settle.new.medium) c.if-set-eq0.false c.ranges.set.fits (Some x) (g.met.M.Medium.whole c.args.medium.now)
-    (ran-cut (image_writes every_page s f ++ (set_write s ∷ (image_writes 0 s f ++ (set_write 0 ∷ [])))) x c.in_err-settle.ensures.ran refl) in
+    let r = journal_done (g.M.Medium.model c.args.medium.now) c.args.set c.args.images.now c.told-images (g.M.Medium.model c.settle.new.medium) c.if-set-eq0.false c.ranges.set.fits (Some (report c.in_err-settle.field-0.0)) (g.met.M.Medium.whole c.args.medium.now)
+    (ran_refused _ c.in_err-settle.ensures.ran) in
     rw (p.1, p.2) (record { ran = r.0; installed = r.1 })
 
 pub returns-in_err-write_images : goal.returns-in_err-write_images
 returns-in_err-write_images g c =
-    let s = c.args.set in
-    let f = pictured c.args.images.now in
-    let x = report c.in_err-write_images.field-0.0 in
     let p = err_from_is_err_and c.from_residual-in_err-write_images.result c.from_residual-in_err-write_images.ensures.1 in
-    let r = journal_done (g.M.Medium.model c.args.medium.now) s c.args.images.now c.told-images (g.M.Medium.model c.write_images.new.medium) c.if-set-eq0.false c.ranges.set.fits (Some x) (g.met.M.Medium.whole c.args.medium.now)
-    (ran_append c.in_ok-settle.ensures.ran refl (ran-cut (set_write s ∷ (image_writes 0 s f ++ (set_write 0 ∷ []))) x c.in_err-write_images.ensures.ran refl)) in
+    let r = journal_done (g.M.Medium.model c.args.medium.now) c.args.set c.args.images.now c.told-images (g.M.Medium.model c.write_images.new.medium) c.if-set-eq0.false c.ranges.set.fits (Some (report c.in_err-write_images.field-0.0)) (g.met.M.Medium.whole c.args.medium.now)
+    (ran_then c.in_ok-settle.ensures.ran (ran_refused _ c.in_err-write_images.ensures.ran)) in
     rw (p.1, p.2) (record { ran = r.0; installed = r.1 })
 
 pub returns-in_err-write_set : goal.returns-in_err-write_set
 returns-in_err-write_set g c =
-    let s = c.args.set in
-    let f = pictured c.args.images.now in
-    let x = report c.in_err-write_set.field-0.0 in
     let p = err_from_is_err_and c.from_residual-in_err-write_set.result c.from_residual-in_err-write_set.ensures.1 in
-    let r = journal_done (g.M.Medium.model c.args.medium.now) s c.args.images.now c.told-images (g.M.Medium.model c.write_set.new.medium) c.if-set-eq0.false c.ranges.set.fits (Some x) (g.met.M.Medium.whole c.args.medium.now)
-    (ran_append c.in_ok-settle.ensures.ran refl (ran_append c.in_ok-write_images.ensures.ran refl
-    (ran-cut (image_writes 0 s f ++ (set_write 0 ∷ [])) x c.in_err-write_set.ensures.ran refl))) in
+    let r = journal_done (g.M.Medium.model c.args.medium.now) c.args.set c.args.images.now c.told-images (g.M.Medium.model c.write_set.new.medium) c.if-set-eq0.false c.ranges.set.fits (Some (report c.in_err-write_set.field-0.0)) (g.met.M.Medium.whole c.args.medium.now)
+    (ran_then c.in_ok-settle.ensures.ran (ran_then c.in_ok-write_images.ensures.ran (ran_refused _ c.in_err-write_set.ensures.ran))) in
     rw (p.1, p.2) (record { ran = r.0; installed = r.1 })
 
 pub returns-in_err-write_images-2 : goal.returns-in_err-write_images-2
 returns-in_err-write_images-2 g c =
-    let s = c.args.set in
-    let f = pictured c.args.images.now in
-    let x = report c.in_err-write_images-2.field-0.0 in
     let p = err_from_is_err_and c.from_residual-in_err-write_images-2.result c.from_residual-in_err-write_images-2.ensures.1 in
-    let r = journal_done (g.M.Medium.model c.args.medium.now) s c.args.images.now c.told-images (g.M.Medium.model c.write_images-2.new.medium) c.if-set-eq0.false c.ranges.set.fits (Some x) (g.met.M.Medium.whole c.args.medium.now)
-    (ran_append c.in_ok-settle.ensures.ran refl (ran_append c.in_ok-write_images.ensures.ran refl (ran_append c.in_ok-write_set.ensures.ran refl
-    (ran-cut (set_write 0 ∷ []) x c.in_err-write_images-2.ensures.ran refl)))) in
+    let r = journal_done (g.M.Medium.model c.args.medium.now) c.args.set c.args.images.now c.told-images (g.M.Medium.model c.write_images-2.new.medium) c.if-set-eq0.false c.ranges.set.fits (Some (report c.in_err-write_images-2.field-0.0)) (g.met.M.Medium.whole c.args.medium.now)
+    (ran_then c.in_ok-settle.ensures.ran (ran_then c.in_ok-write_images.ensures.ran (ran_then c.in_ok-write_set.ensures.ran (ran_refused _ c.in_err-write_images-2.ensures.ran)))) in
     rw (p.1, p.2) (record { ran = r.0; installed = r.1 })
 
 pub returns : goal.returns
 returns g c =
     let r = journal_done (g.M.Medium.model c.args.medium.now) c.args.set c.args.images.now c.told-images (g.M.Medium.model c.write_set-2.new.medium) c.if-set-eq0.false c.ranges.set.fits (refusal c.write_set-2.result) (g.met.M.Medium.whole c.args.medium.now)
-    (ran_append c.in_ok-settle.ensures.ran refl (ran_append c.in_ok-write_images.ensures.ran refl (ran_append c.in_ok-write_set.ensures.ran refl
-    (ran_append c.in_ok-write_images-2.ensures.ran refl c.write_set-2.ensures.ran)))) in
+    (ran_then c.in_ok-settle.ensures.ran (ran_then c.in_ok-write_images.ensures.ran (ran_then c.in_ok-write_set.ensures.ran (ran_then c.in_ok-write_images-2.ensures.ran c.write_set-2.ensures.ran)))) in
     record { ran = r.0; installed = r.1 }
