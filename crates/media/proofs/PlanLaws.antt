@@ -221,9 +221,3 @@ pub ran-keeps : (b : ℕ) {m m' : Device} {ws : List Write} {o : Option Report} 
 ran-keeps b done apart = refl
 ran-keeps b {m} (stops {w} f h) apart = ap (λ x. block_at x b) h.after ∙ after-other f m w.block w.bytes b apart.0
 ran-keeps b {m} (goes {w} f h rest) apart = ran-keeps b rest apart.1 ∙ ap (λ x. block_at x b) h.after ∙ after-other f m w.block w.bytes b apart.0
-
--- nothing written
-pub ran-nothing : {m m' : Device} {ws : List Write} {o : Option Report} → Ran m ws o m' → ws ≡ [] → (o ≡ None) × (m' ≡ m)
-ran-nothing done e = (refl, refl)
-ran-nothing (stops f h) e = absurd (let z : ◌≡◌ {A = ℕ} 0 1 = cc in omega arith)
-ran-nothing (goes f h rest) e = absurd (let z : ◌≡◌ {A = ℕ} 0 1 = cc in omega arith)

@@ -23,9 +23,6 @@ long_enough m = record { image = page_in m.blocks; state = cond m.live Live Dead
 pub store_long : (m : Device) → 129 ≤ block_count m → store_on m ≡ long_enough m
 store_long m h = cond-true (leb 129 (block_count m)) (long_enough m) (record { image = λ _. blank; state = Short }) (le-leb 129 (block_count m) h)
 
-pub store-short : (m : Device) → block_count m < 129 → store_on m ≡ record { image = λ _. blank; state = Short }
-store-short m h = cond-false (leb 129 (block_count m)) (long_enough m) (record { image = λ _. blank; state = Short }) (lt-leb 129 (block_count m) h)
-
 abbrev with_state : (ℕ → List ℕ) → State → Store
 with_state g x = record { image = g; state = x }
 
