@@ -2,6 +2,7 @@
 ghost use Rattle.std.specs.Prelude.{◌≡◌};
 ghost use Rattle.media.specs.Media.{dies as dies_by, lands as lands_by};
 
+// Kept: an Option of what is left in the block would say the same, and name none of the three outcomes.
 #[derive(Clone, Copy, PartialEq, Eq, Debug)]
 pub enum Fate {
     // the block is new and the medium lives on

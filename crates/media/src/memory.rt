@@ -15,6 +15,7 @@ use faults::Fault;
 pub struct MemoryMedium<'a> {
     bytes: &'a mut [u8],
     fuse: Fuse,
+    // Kept: a flag beside the fuse: a dead medium takes a new fuse and stays dead.
     live: bool,
 }
 

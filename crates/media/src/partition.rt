@@ -1,5 +1,6 @@
 // Some blocks of another medium, counted from 0 again.
-ghost use Rattle.std.specs.Prelude.{◌≡◌, ℕ, ◌+◌, ◌^◌, ◌<◌};
+ghost use Rattle.std.specs.Prelude.{◌≡◌, ℕ, ◌+◌, ◌^◌, ◌<◌, ◌≤◌, MatchResult};
+ghost use Rattle.faults.specs.declared.fault.Fault.TheVariants.{NoSuchBlock};
 ghost use Rattle.faults.specs.Faults.{refusal, report};
 ghost use Rattle.media.specs.Media.{Wrote, powered, block_count};
 ghost use Rattle.media.specs.Parts.{part, retell, SameOutside};
@@ -53,6 +54,16 @@ impl<M: Medium> Partition<M> {
             _ => 0,
         }
     }
+
+    // The block of the medium below that stands for a block of the partition.
+    fn below(&self, block: usize) -> Result<usize, Fault>
+        ensures { MatchResult result (λ b. (b ≡ self.now.first + block) × (block < block_count (part M.Medium.model self.now))) (λ f. (report f ≡ report (NoSuchBlock block)) × (block_count (part M.Medium.model self.now) ≤ block)) }
+    {
+        if block >= self.length() {
+            return Err(Fault::NoSuchBlock(block));
+        }
+        Ok(self.first + block)
+    }
 }
 
 // A fault of the medium below, where a lost block is told as the partition counts it.
@@ -75,10 +86,7 @@ impl<M: Medium> Medium for Partition<M> {
     }
 
     fn read(&self, block: usize, buffer: &mut [u8]) -> Result<(), Fault> {
-        if block >= self.length() {
-            return Err(Fault::NoSuchBlock(block));
-        }
-        self.medium.read(self.first + block, buffer)
+        self.medium.read(self.below(block)?, buffer)
     }
 
     fn write(&mut self, block: usize, data: &[u8]) -> Result<(), Fault>
@@ -87,11 +95,9 @@ impl<M: Medium> Medium for Partition<M> {
         ensures first { self.new.first ≡ self.old.first }
         ensures blocks { self.new.blocks ≡ self.old.blocks }
     {
-        if block >= self.length() {
-            return Err(Fault::NoSuchBlock(block));
-        }
+        let below = self.below(block)?;
         self.medium
-            .write(self.first + block, data)
+            .write(below, data)
             .map_err(|fault| retold(fault, block))
     }
 

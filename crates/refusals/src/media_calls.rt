@@ -23,12 +23,8 @@ fn bytes_behind_the_last_block_stay(rt: HostRuntime) {
         MemoryMedium::new(&mut chip).write(129, &[5u8; BLOCK]),
         Ok(())
     );
-    let mut fives = 0u32;
-    let mut nines = 0u32;
-    for (i, byte) in chip.iter().enumerate() {
-        fives = fives.saturating_add((i >= 33024 && i < 33280 && *byte == 5) as u32);
-        nines = nines.saturating_add((i >= 33280 && *byte == 9) as u32);
-    }
+    let fives = chip[33024..33280].iter().filter(|byte| **byte == 5).count();
+    let nines = chip[33280..].iter().filter(|byte| **byte == 9).count();
     assert_eq!(rt; fives, 256);
     assert_eq!(rt; nines, 17);
 }

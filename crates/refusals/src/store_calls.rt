@@ -2,7 +2,7 @@
 use faults::Fault;
 use media::{Left, Medium, MemoryMedium};
 use std::process::Abort;
-use stores::{JournalStore, PageStore, ShadowStore};
+use stores::{Journal, JournalStore, MediumStore, PageStore, Shadow, ShadowStore, Way};
 
 // 129 blocks, and one block less.
 const ENOUGH: usize = 33024;
@@ -58,28 +58,26 @@ fn installs<S: PageStore>(rt: &impl Abort, short: &mut S, dead: &mut S, first: u
     assert_eq!(rt; image[228], 0, "zeros from byte 228 on");
 }
 
-#[test]
-fn journal_store_refuses_in_order(rt: HostRuntime) {
+// Both, on a store of one block less and on a store that dies at its first write.
+fn refuses_in_order<W: Way>(rt: &impl Abort) {
     let mut few = [0u8; SHORT];
     let mut many = [0u8; ENOUGH];
     let mut chip = MemoryMedium::new(&mut many);
     chip.set_fuse(0, Left::Old);
-    let mut short = JournalStore::new(MemoryMedium::new(&mut few));
-    let mut store = JournalStore::new(chip);
-    reads(&rt, &short, &store);
-    installs(&rt, &mut short, &mut store, 67);
+    let mut short: MediumStore<MemoryMedium, W> = MediumStore::new(MemoryMedium::new(&mut few));
+    let mut store: MediumStore<MemoryMedium, W> = MediumStore::new(chip);
+    reads(rt, &short, &store);
+    installs(rt, &mut short, &mut store, 67);
+}
+
+#[test]
+fn journal_store_refuses_in_order(rt: HostRuntime) {
+    refuses_in_order::<Journal>(&rt);
 }
 
 #[test]
 fn shadow_store_refuses_in_order(rt: HostRuntime) {
-    let mut few = [0u8; SHORT];
-    let mut many = [0u8; ENOUGH];
-    let mut chip = MemoryMedium::new(&mut many);
-    chip.set_fuse(0, Left::Old);
-    let mut short = ShadowStore::new(MemoryMedium::new(&mut few));
-    let mut store = ShadowStore::new(chip);
-    reads(&rt, &short, &store);
-    installs(&rt, &mut short, &mut store, 67);
+    refuses_in_order::<Shadow>(&rt);
 }
 
 #[test]

@@ -89,7 +89,8 @@ fn picture(images: &[u8; IMAGES], page: Page) -> [u8; BLOCK]
 }
 
 // Writes the image of one page into its block, if the page is in the set.
-pub(crate) fn put_image<M: Medium>(
+// Kept: `upper`, `set` and `images` as they are: a struct of the three would be made anew for each of the three runs of writes.
+fn put_image<M: Medium>(
     medium: &mut M,
     upper: u64,
     set: u64,
@@ -121,6 +122,7 @@ pub(crate) fn write_images<M: Medium>(
 }
 
 // Copies the staged image of one page home, if the page is in the mark.
+// Kept: a closure that gives the image, for this and `put_image`, needs a clause on what it gives after each of the writes before.
 fn bring_home<M: Medium>(medium: &mut M, mark: u64, page: Page) -> Result<(), Fault>
     requires there { 129 ≤ block_count (M.Medium.model medium.old) }
     ensures ran { Ran (M.Medium.model medium.old) (of_page 0 mark (λ p. image_of (block_at (M.Medium.model medium.old) (slot every_page p))) page.number) (refusal result) (M.Medium.model medium.new) }
