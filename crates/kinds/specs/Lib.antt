@@ -6,3 +6,4 @@ pub mod Pairs
 pub mod ActionLaws
 pub mod PageSetLaws
 pub mod PairLaws
+pub mod Refusals

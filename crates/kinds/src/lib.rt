@@ -7,6 +7,7 @@ mod op;
 mod page;
 mod pair;
 mod parse;
+mod refusal;
 mod sets_of;
 mod write;
 
@@ -15,4 +16,5 @@ pub use kind::Kind;
 pub use op::Op;
 pub use page::PageKind;
 pub use pair::Pair;
+pub use refusal::Refusal;
 pub use sets_of::{both, only};

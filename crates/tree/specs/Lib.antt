@@ -7,3 +7,4 @@ pub mod TreeLaws
 pub mod NodeLaws
 pub mod EntryLaws
 pub mod StepLaws
+pub mod Unfits

@@ -9,6 +9,7 @@ mod order;
 mod parse;
 mod step;
 mod steps;
+mod unfit;
 mod write;
 
 pub use entries::search;

@@ -1,41 +1,48 @@
-use Rattle.std.proofs.Common.{◌≡◌, ◌*◌, true, false, ◌&&◌, eqb, length, sym, ap, ◌∙◌}
-use Rattle.std.proofs.lemmas.Bool.{and_parts, eqb-true}
-use Rattle.sets.specs.Sets.{size}
+use Rattle.std.proofs.Common.{length, sym, ap, ◌∙◌}
 use Rattle.kinds.specs.Actions.{sets}
 use Rattle.kinds.specs.Kinds.{answer, filled}
-use Rattle.kinds.specs.Views.{view}
+use Rattle.kinds.specs.Views.{view, viewed}
 use Rattle.kinds.specs.ActionLaws.{page-reply_none, page-reply_short, page-reply_done, parse-good, action-ready}
+use Rattle.kinds.proofs.RefusalLaws.{refused, malformed, misfit, fit, fit-lengths}
 use Rattle.kinds.proofs.page.PageKindKind.effect.Goals as goal
 
-pub returns-in_default : goal.returns-in_default
-returns-in_default c =
-    let r = page-reply_none c.args.body.now c.args.old.now (length c.args.new.now) c.in_default.ensures in
-    record { answer = ap answer (sym r); buffer = ap (λ x. filled x c.args.new.now) (sym r) }
+pub returns-in_err-op : goal.returns-in_err-op
+returns-in_err-op c =
+    let none = ap viewed (sym c.in_err-op.ensures.ok_part) ∙ c.parse.ensures in
+    let r = page-reply_none c.args.body.now c.args.old.now (length c.args.new.now) none in
+    record {
+      answer = refused _ _ _ _ c.from_residual.ensures.1 (malformed _ _ c.in_err-op.ensures.value) r;
+      buffer = ap (λ x. filled x c.args.new.now) (sym r);
+    }
 
 -- the test of the lengths, at the operation's sets
-pub returns-then-not-sized : goal.returns-then-not-sized
-returns-then-not-sized c =
-    let a = view c.in-Some.op in
+pub returns-in_err-sized : goal.returns-in_err-sized
+returns-in_err-sized c =
+    let a = view c.in_ok-op.op in
     let old = c.args.old.now in
     let n = length c.args.new.now in
-    let t : (eqb (length old) (224 * size (sets a).0) && eqb n (224 * size (sets a).1)) ≡ false = ap (λ s. eqb (length old) (224 * size s.0) && eqb n (224 * size s.1)) (sym c.sets.ensures) ∙ sym c.if-not-sized.ensures in
-    let r = page-reply_short c.args.body.now old n a c.in-Some.ensures t in
-    record { answer = ap answer (sym r); buffer = ap (λ x. filled x c.args.new.now) (sym r) }
+    let some = ap viewed (sym c.in_ok-op.ensures.ok_part) ∙ c.parse.ensures in
+    let m = misfit (length old) n _ (sets a) _ c.sets.ensures c.in_err-sized.ensures in
+    let r = page-reply_short c.args.body.now old n a some m.0 in
+    record {
+      answer = refused _ _ _ _ c.from_residual-in_err-sized.ensures.1 m.1 r;
+      buffer = ap (λ x. filled x c.args.new.now) (sym r);
+    }
 
 pub write-requires : goal.write-requires
 write-requires c =
-    let a = view c.in-Some.op in
-    let old = c.args.old.now in
+    let a = view c.in_ok-op.op in
+    let k = length c.args.old.now in
     let n = length c.args.new.now in
-    let t : (eqb (length old) (224 * size (sets a).0) && eqb n (224 * size (sets a).1)) ≡ true = ap (λ s. eqb (length old) (224 * size s.0) && eqb n (224 * size s.1)) (sym c.sets.ensures) ∙ sym c.if-not-sized.ensures in
-    let x = and_parts (eqb (length old) (224 * size (sets a).0)) (eqb n (224 * size (sets a).1)) t in
-    action-ready a (length old) n (parse-good c.args.body.now a (sym c.in-Some.ensures)) (eqb-true (length old) (224 * size (sets a).0) x.0) (eqb-true n (224 * size (sets a).1) x.1)
+    let some = ap viewed (sym c.in_ok-op.ensures.ok_part) ∙ c.parse.ensures in
+    let x = fit-lengths k n (sets a) (fit k n _ (sets a) c.sets.ensures c.in_ok-sized.ensures) in
+    action-ready a k n (parse-good c.args.body.now a (sym some)) x.0 x.1
 
 pub returns : goal.returns
 returns c =
-    let a = view c.in-Some.op in
+    let a = view c.in_ok-op.op in
     let old = c.args.old.now in
     let n = length c.args.new.now in
-    let t : (eqb (length old) (224 * size (sets a).0) && eqb n (224 * size (sets a).1)) ≡ true = ap (λ s. eqb (length old) (224 * size s.0) && eqb n (224 * size s.1)) (sym c.sets.ensures) ∙ sym c.if-not-sized.ensures in
-    let r = page-reply_done c.args.body.now old n a c.in-Some.ensures t in
+    let some = ap viewed (sym c.in_ok-op.ensures.ok_part) ∙ c.parse.ensures in
+    let r = page-reply_done c.args.body.now old n a some (fit (length old) n _ (sets a) c.sets.ensures c.in_ok-sized.ensures) in
     record { answer = ap answer (sym r); buffer = c.write.ensures ∙ ap (λ x. filled x c.args.new.now) (sym r) }
