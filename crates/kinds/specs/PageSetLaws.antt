@@ -3,8 +3,9 @@ use Rattle.std.specs.Prelude.{◌≡◌, ℕ, zero, suc, ◌+◌, ◌-◌, ◌*�
 use Rattle.std.proofs.Common.{sym, ap, ◌∙◌, pow-suc, arith}
 use Rattle.std.proofs.lemmas.Bool.{cond_both, le-ltb, and_right, lt-ltb}
 use Rattle.std.proofs.lemmas.Bool.Decides.{nat_tests}
+use Rattle.std.specs.List.{fold, range_with_len}
 use Rattle.sets.specs.Sets.{has, count, size, SetOf}
-use Rattle.sets.proofs.SetLaws.{has-zero, has-suc, has-none, set-only}
+use Rattle.sets.proofs.SetLaws.{has-zero, has-suc, has-none, has_within, set-only}
 use Rattle.kinds.specs.PageSets.{gather, set_of, only, both, run}
 
 digit : (b : Bool) (g : ℕ) → ((cond b 1 0 + 2 * g) % 2 == 1) ≡ b
@@ -106,21 +107,39 @@ both_is r s t a b small hs ht h = set_is r (λ q. (q == a) || q == b) small (λ 
     at : (q : ℕ) (x y : Bool) → x ≡ (q == a && nat_lt a 64) → y ≡ (q == b && nat_lt b 64) → (x || y) ≡ ((q == a || q == b) && nat_lt q 64)
     at q x y ex ey = grind (arith, nat_tests)
 
--- the pages from s on, up to page p
-abbrev pub UpTo : ℕ → ℕ → ℕ → Type 0
-UpTo s p r = (q : ℕ) → has r q ≡ ((nat_le s q && nat_lt q p) && nat_lt q 64)
+-- a set and one page more
+abbrev pub with_page : ℕ → ℕ → ℕ
+with_page s p = set_of (λ q. has s q || q == p)
 
-pub up_none : (s p : ℕ) → p ≡ s → UpTo s p 0
-up_none s p e q = has-none q ∙ at
+pub with_is : (r s t p : ℕ) → r < 2 ^ 64 → s < 2 ^ 64 → SetOf t (λ q. (q == p) && nat_lt p 64) → SetOf r (λ q. has s q || has t q) → r ≡ with_page s p
+with_is r s t p small l ht h = set_is r (λ q. has s q || q == p) small (λ q. h q ∙ at q (has s q) (has t q) (inside q (has s q) refl) (ht q))
   where
-    at : false ≡ ((nat_le s q && nat_lt q p) && nat_lt q 64)
-    at = grind (arith, nat_tests)
+    inside : (q : ℕ) (b : Bool) → has s q ≡ b → b ≡ (b && nat_lt q 64)
+    inside q true e = sym (lt-ltb q 64 (has_within s q l e))
+    inside q false e = refl
 
-pub up_more : (s p r t u : ℕ) → s ≤ p → UpTo s p r → SetOf t (λ q. (q == p) && nat_lt p 64) → SetOf u (λ q. has r q || has t q) → UpTo s (p + 1) u
-up_more s p r t u le hr ht hu q = hu q ∙ at (has r q) (has t q) (hr q) (ht q)
+    at : (q : ℕ) (x y : Bool) → x ≡ (x && nat_lt q 64) → y ≡ (q == p && nat_lt p 64) → (x || y) ≡ ((x || q == p) && nat_lt q 64)
+    at q x y ex ey = grind (arith, nat_tests)
+
+same-sets : (f g : ℕ → Bool) → ((q : ℕ) → (f q && nat_lt q 64) ≡ (g q && nat_lt q 64)) → set_of f ≡ set_of g
+same-sets f g h = set_is (set_of f) g (set_below f) (λ q. set-has f q ∙ h q)
+
+-- a set and the c pages from s on, one after the other
+with-pages : (f : ℕ → Bool) (c s : ℕ) → fold with_page (set_of f) (range_with_len s c) ≡ set_of (λ q. f q || (nat_le s q && nat_lt q (s + c)))
+with-pages f zero s = same-sets f (λ q. f q || (nat_le s q && nat_lt q (s + 0))) (λ q. none q)
   where
-    at : (x y : Bool) → x ≡ ((nat_le s q && nat_lt q p) && nat_lt q 64) → y ≡ (q == p && nat_lt p 64) → (x || y) ≡ ((nat_le s q && nat_lt q (p + 1)) && nat_lt q 64)
-    at x y ex ey = grind (arith, nat_tests)
+    none : (q : ℕ) → (f q && nat_lt q 64) ≡ ((f q || (nat_le s q && nat_lt q (s + 0))) && nat_lt q 64)
+    none q = grind (arith, nat_tests)
+with-pages f (suc c) s =
+    ap (λ r. fold with_page r (range_with_len (s + 1) c)) (same-sets (λ q. has (set_of f) q || q == s) (λ q. f q || q == s) (λ q. here q (has (set_of f) q) (set-has f q)))
+    ∙ with-pages (λ q. f q || q == s) c (s + 1)
+    ∙ same-sets (λ q. (f q || q == s) || (nat_le (s + 1) q && nat_lt q (s + 1 + c))) (λ q. f q || (nat_le s q && nat_lt q (s + suc c))) (λ q. more q)
+  where
+    here : (q : ℕ) (x : Bool) → x ≡ (f q && nat_lt q 64) → ((x || q == s) && nat_lt q 64) ≡ ((f q || q == s) && nat_lt q 64)
+    here q x e = grind (arith, nat_tests)
 
-pub run_is : (s c r p : ℕ) → r < 2 ^ 64 → p ≡ s + c → UpTo s p r → r ≡ run s c
-run_is s c r p small e h = set_is r (λ q. nat_le s q && nat_lt q (s + c)) small (λ q. h q ∙ ap (λ x. (nat_le s q && nat_lt q x) && nat_lt q 64) e)
+    more : (q : ℕ) → (((f q || q == s) || (nat_le (s + 1) q && nat_lt q (s + 1 + c))) && nat_lt q 64) ≡ ((f q || (nat_le s q && nat_lt q (s + suc c))) && nat_lt q 64)
+    more q = grind (arith, nat_tests)
+
+pub run_is : (s c : ℕ) → fold with_page 0 (range_with_len s c) ≡ run s c
+run_is s c = ap (λ r. fold with_page r (range_with_len s c)) (set_is 0 (λ _. false) (omega arith) has-none) ∙ with-pages (λ _. false) c s

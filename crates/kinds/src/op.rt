@@ -1,5 +1,5 @@
 // An operation on whole pages.
-#[derive(Clone, Copy)]
+#[derive(Clone, Copy, PartialEq, Eq, Debug)]
 pub enum Op<'a> {
     // The bytes are the part of the body that holds them.
     Patch {

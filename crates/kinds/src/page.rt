@@ -21,6 +21,7 @@ impl Kind for PageKind {
 
     ghost lawful = { page-lawful };
 
+    // Kept: the tree kind has the same few lines, and a trait for them with its laws would be longer.
     fn scope(body: &[u8]) -> Result<(u64, u64), Refusal> {
         Ok(Op::parse(body).ok_or(Refusal::Malformed)?.sets())
     }

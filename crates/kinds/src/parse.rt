@@ -4,29 +4,19 @@ ghost use Rattle.kinds.specs.Actions.{patch_of, fill_from, copy_of, swap_from};
 ghost use Rattle.kinds.specs.Actions.{parse as parse_of};
 ghost use Rattle.kinds.specs.Views.{viewed};
 
+use crate::buffers::CONTENTS;
+use crate::kind::Kind;
 use crate::op::Op;
+use crate::page::PageKind;
 
-const LAST_PAGE: u8 = 63;
-
-const PAGES: usize = 64;
-
-const CONTENTS: usize = 224;
-
-const MOST: u8 = 4;
+const PAGES: u32 = 64;
 
 fn patch_of<'a>(page: u8, offset: u8, bytes: &'a [u8]) -> Option<Op<'a>>
     ensures { viewed result ≡ patch_of page offset bytes.now }
 {
-    if page > LAST_PAGE {
-        return None;
-    }
-    if bytes.len() == 0 {
-        return None;
-    }
-    if bytes.len() > CONTENTS || offset as usize + bytes.len() > CONTENTS {
-        return None;
-    }
-    Some(Op::Patch {
+    let full = bytes.len() > 0 && bytes.len() <= CONTENTS;
+    let fits = full && usize::from(offset) + bytes.len() <= CONTENTS;
+    (u32::from(page) < PAGES && fits).then_some(Op::Patch {
         page,
         offset,
         bytes,
@@ -36,39 +26,24 @@ fn patch_of<'a>(page: u8, offset: u8, bytes: &'a [u8]) -> Option<Op<'a>>
 fn fill_of<'a>(page: u8, byte: u8) -> Option<Op<'a>>
     ensures { viewed result ≡ fill_from page byte }
 {
-    if page > LAST_PAGE {
-        return None;
-    }
-    Some(Op::Fill { page, byte })
+    (u32::from(page) < PAGES).then_some(Op::Fill { page, byte })
 }
 
 fn copy_of<'a>(from: u8, to: u8, count: u8) -> Option<Op<'a>>
     ensures { viewed result ≡ copy_of from to count }
 {
-    if count == 0 || count > MOST {
-        return None;
-    }
-    let from_end = from as usize + count as usize;
-    let to_end = to as usize + count as usize;
-    if from_end > PAGES || to_end > PAGES {
-        return None;
-    }
-    if from_end > to as usize && to_end > from as usize {
-        return None;
-    }
-    Some(Op::Copy { from, to, count })
+    let pages = u32::from(count);
+    let from_end = u32::from(from) + pages;
+    let to_end = u32::from(to) + pages;
+    let apart = from_end <= u32::from(to) || to_end <= u32::from(from);
+    let some = pages >= 1 && pages <= PageKind::LIMIT;
+    (some && from_end <= PAGES && to_end <= PAGES && apart).then_some(Op::Copy { from, to, count })
 }
 
 fn swap_of<'a>(a: u8, b: u8) -> Option<Op<'a>>
     ensures { viewed result ≡ swap_from a b }
 {
-    if a > LAST_PAGE || b > LAST_PAGE {
-        return None;
-    }
-    if a == b {
-        return None;
-    }
-    Some(Op::Swap { a, b })
+    (u32::from(a) < PAGES && u32::from(b) < PAGES && a != b).then_some(Op::Swap { a, b })
 }
 
 impl<'a> Op<'a> {

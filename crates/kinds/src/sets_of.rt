@@ -2,6 +2,7 @@
 ghost use Rattle.std.specs.Prelude.{◌≡◌};
 ghost use Rattle.kinds.specs.Actions.{sets as sets_of};
 ghost use Rattle.kinds.specs.PageSets.{only as only_of, both as both_of, run as run_of};
+ghost use Rattle.kinds.specs.PageSetLaws.{with_page};
 ghost use Rattle.kinds.specs.Views.{view};
 
 use crate::op::Op;
@@ -11,25 +12,29 @@ use sets::{single, union};
 pub fn only(page: u8) -> u64
     ensures { result ≡ only_of page }
 {
-    single(page as u32)
+    single(u32::from(page))
 }
 
 // The set of two pages.
 pub fn both(a: u8, b: u8) -> u64
     ensures { result ≡ both_of a b }
 {
-    union(single(a as u32), single(b as u32))
+    union(single(u32::from(a)), single(u32::from(b)))
+}
+
+// A set and one page more.
+fn with(set: u64, page: u32) -> u64
+    ensures { result ≡ with_page set page }
+{
+    union(set, single(page))
 }
 
 // The set of the `count` pages from page `from` on.
 pub fn run(from: u8, count: u8) -> u64
     ensures { result ≡ run_of from count }
 {
-    let mut set = 0;
-    for p in from as u32..from as u32 + count as u32 {
-        set = union(set, single(p));
-    }
-    set
+    let start = u32::from(from);
+    (start..start + u32::from(count)).fold(0, with)
 }
 
 impl Op<'_> {

@@ -3,9 +3,8 @@ ghost use Rattle.std.specs.Prelude.{◌≡◌, ◌+◌, ◌≤◌, ◌++◌, len
 ghost use Rattle.kinds.specs.Actions.{change, Ready};
 ghost use Rattle.kinds.specs.Views.{view};
 
+use crate::buffers::CONTENTS;
 use crate::op::Op;
-
-const CONTENTS: usize = 224;
 
 // Lays bytes over one page's contents.
 fn lay(offset: usize, bytes: &[u8], old: &[u8], new: &mut [u8])
@@ -32,7 +31,7 @@ impl Op<'_> {
         ensures { new.new ≡ change (view self.now) old.now }
     {
         match self {
-            Op::Patch { offset, bytes, .. } => lay(*offset as usize, bytes, old, new),
+            Op::Patch { offset, bytes, .. } => lay(usize::from(*offset), bytes, old, new),
             Op::Fill { byte, .. } => new.fill(*byte),
             Op::Copy { .. } => new.copy_from_slice(old),
             Op::Swap { .. } => exchange(old, new),

@@ -1,12 +1,13 @@
-use Rattle.std.proofs.Common.{◌≡◌, ◌+◌, refl, arith}
-use Rattle.kinds.specs.PageSetLaws.{up_none, up_more, run_is}
+use Rattle.std.proofs.Common.{◌+◌, refl, arith, ap₂, ◌∙◌, rules}
+use Rattle.std.proofs.lemmas.Iterator.{YieldsList-from_range}
+use Rattle.std.proofs.lemmas.Iterator.Consumers.{fold_from_yields_List}
+use Rattle.kinds.specs.PageSets.{run}
+use Rattle.kinds.specs.PageSetLaws.{with_page, run_is}
 use Rattle.kinds.proofs.sets_of.run.Goals as goal
 
-pub loop-p-init : goal.loop-p-init
-loop-p-init c = (omega arith, up_none c.args.from c.args.from refl)
-
-pub loop-p-preserved : goal.loop-p-preserved
-loop-p-preserved c = (c.union-set.type_inv, up_more c.args.from c.loop-p.p c.loop-p.set c.single.result c.union-set.result c.loop-p.auto.p c.loop-p.invariant.1 c.single.ensures c.union-set.ensures)
-
 pub returns : goal.returns
-returns c = let e : c.loop-p.p ≡ c.args.from + c.args.count = omega arith in run_is c.args.from c.args.count c.loop-p.set c.loop-p.p c.loop-p.invariant.0 e c.loop-p.invariant.1
+returns c =
+    let s = c.from-start.result in
+    let n = c.from.result in
+    fold_from_yields_List _ with_page 0 _ c.fold.ensures.ran (YieldsList-from_range s (s + n) n refl (omega arith)) (λ a x b q k. search rules)
+    ∙ run_is s n ∙ ap₂ run c.from-start.ensures c.from.ensures
