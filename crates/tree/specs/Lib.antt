@@ -8,3 +8,5 @@ pub mod NodeLaws
 pub mod EntryLaws
 pub mod StepLaws
 pub mod Unfits
+pub mod Views
+pub mod ListLaws

@@ -1,10 +1,19 @@
 // The entries of a page, read from its contents. Bytes past the end of a slice read as zero.
-ghost use Rattle.std.specs.Prelude.{◌≡◌, ◌+◌, ◌*◌, ◌≤◌, false, slice_index};
+ghost use Rattle.std.specs.Prelude.{◌≡◌, ◌+◌, ◌*◌, ◌≤◌, false, slice_index, drop};
+ghost use Rattle.std.specs.Iterator.{item_count, YieldsFirstBy};
 ghost use Rattle.sets.specs.Words.{number, part};
-ghost use Rattle.tree.specs.Nodes.{count as count_of, entries, entries_of, find, absent as absent_of, rising as rising_of, fresh as fresh_of, before as before_of};
+ghost use Rattle.tree.specs.Nodes.{count as count_of, entries, find, absent as absent_of, rising as rising_of, fresh as fresh_of, before as before_of};
+ghost use Rattle.tree.specs.Views.{pair, left};
 
 use crate::order::KeyOrder;
 use sets::{contains, single, u32_at, union};
+
+// A key with its value.
+#[derive(Clone, Copy, PartialEq, Eq, Debug)]
+pub(crate) struct Entry {
+    pub key: u32,
+    pub value: u32,
+}
 
 // The byte at a place.
 pub fn byte(c: &[u8], at: usize) -> u8
@@ -17,7 +26,7 @@ pub fn byte(c: &[u8], at: usize) -> u8
 pub fn count(c: &[u8]) -> usize
     ensures { result ≡ count_of c.now }
 {
-    byte(c, 1) as usize
+    usize::from(byte(c, 1))
 }
 
 // The key of entry i.
@@ -28,64 +37,79 @@ pub(crate) fn key_at(c: &[u8], i: usize) -> u32
     u32_at(c, 4 + 8 * i)
 }
 
-// The value of entry i.
-pub(crate) fn value_at(c: &[u8], i: usize) -> u32
-    requires { i ≤ 255 }
-    ensures { result ≡ number (part (8 + 8 * i) 4 c.now) }
+// Bytes without the first n of them.
+fn past(bytes: &[u8], n: usize) -> &[u8]
+    ensures { result.now ≡ drop n bytes.now }
 {
-    u32_at(c, 8 + 8 * i)
+    bytes.get(n..).unwrap_or(&[])
+}
+
+// Entries that are still to read.
+#[derive(Drop)]
+pub(crate) struct Entries<'a> {
+    bytes: &'a [u8],
+    count: u8,
+}
+
+impl<'a> Entries<'a> {
+    // The entries of a page.
+    pub(crate) fn of(c: &'a [u8]) -> Entries<'a>
+        ensures { left result ≡ entries c.now }
+    {
+        Entries {
+            bytes: past(c, 4),
+            count: byte(c, 1),
+        }
+    }
+}
+
+impl Iterator for Entries<'_> {
+    type Item = Entry;
+
+    ghost next_gives = { YieldsFirstBy pair left };
+
+    ghost remaining = { item_count left };
+
+    fn next(&mut self) -> Option<Entry> {
+        self.count = self.count.checked_sub(1)?;
+        let entry = Entry {
+            key: u32_at(self.bytes, 0),
+            value: u32_at(self.bytes, 4),
+        };
+        self.bytes = past(self.bytes, 8);
+        Some(entry)
+    }
 }
 
 // The value of a key among the entries of a page.
 pub fn search(c: &[u8], key: u32) -> Option<u32>
     ensures { result ≡ find key (entries c.now) }
 {
-    for i in 0..count(c) {
-        if key_at(c, i) == key {
-            return Some(value_at(c, i));
-        }
-    }
-    None
+    let entry = Entries::of(c).find(|entry| entry.key == key)?;
+    Some(entry.value)
 }
 
 // Whether a key is absent among the entries of a page.
 pub fn absent(c: &[u8], key: u32) -> bool
     ensures { result ≡ absent_of key (entries c.now) }
 {
-    for i in 0..count(c) {
-        if key_at(c, i) == key {
-            return false;
-        }
-    }
-    true
+    search(c, key).is_none()
 }
 
 // How many entries of a page stand before the first whose key is not below `key`.
 pub fn before<O: KeyOrder>(c: &[u8], key: u32) -> usize
     ensures { result ≡ before_of O.KeyOrder.ordering key (entries c.now) }
 {
-    let n = count(c);
-    for i in 0..n {
-        if !O::less(key_at(c, i), key) {
-            return i;
-        }
-    }
-    n
+    Entries::of(c)
+        .take_while(|entry| O::less(entry.key, key))
+        .count()
 }
 
 // Whether the keys of a page rise.
 pub fn rising<O: KeyOrder>(c: &[u8]) -> bool
     ensures { result ≡ rising_of O.KeyOrder.ordering (entries c.now) }
 {
-    let mut last = key_at(c, 0);
-    for i in 1..count(c) {
-        let key = key_at(c, i);
-        if !O::less(last, key) {
-            return false;
-        }
-        last = key;
-    }
-    true
+    Entries::of(c).is_sorted_by(|a, b| O::less(a.key, b.key))
 }
 
 // Whether the values of a page are the numbers 1 to its count, each once.
@@ -93,14 +117,11 @@ pub(crate) fn fresh(c: &[u8]) -> bool
     requires { count_of c.now ≤ 26 }
     ensures { result ≡ fresh_of (count_of c.now) (λ _. false) (entries c.now) }
 {
-    let n = count(c);
+    let n = byte(c, 1);
     let mut seen = 0;
-    for i in 0..n {
-        let value = value_at(c, i);
-        if value == 0 || value as usize > n {
-            return false;
-        }
-        if contains(seen, value) {
+    for entry in Entries::of(c) {
+        let value = entry.value;
+        if value == 0 || value > u32::from(n) || contains(seen, value) {
             return false;
         }
         seen = union(seen, single(value));

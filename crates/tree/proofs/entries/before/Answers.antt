@@ -1,21 +1,24 @@
-use Rattle.std.proofs.Common.{sym, ap, arith}
-use Rattle.tree.specs.Nodes.{before}
-use Rattle.tree.specs.EntryLaws.{from_all, before-stop, before-go}
+use Rattle.std.proofs.Common.{◌≡◌, ◌≤◌, inl, length, ap, ◌∙◌, arith, rules, tests}
+use Rattle.std.proofs.lemmas.Iterator.Search.{YieldsList-from_take_while}
+use Rattle.std.proofs.lemmas.Iterator.Consumers.{YieldsList-from_first, count_from_yields_List}
+use Rattle.std.proofs.lemmas.List.Folds.{length-prefix_len}
+use Rattle.tree.specs.Nodes.{Entry, count, entries}
+use Rattle.tree.specs.NodeLaws.{length-entries_of}
+use Rattle.tree.specs.ListLaws.{before_is}
+use Rattle.tree.specs.Views.{pair, left}
 use Rattle.tree.proofs.entries.before.Goals as goal
 
-pub loop-i-init : goal.loop-i-init
-loop-i-init g c =
-    let e = ap (before g.O.KeyOrder.ordering c.args.key) (from_all c.args.c.now c.count-n.result c.count-n.ensures) in
-    (c.count-n.ensures, omega arith)
+pub count-requires-clause-fits : goal.count-requires-clause-fits
+unfolding entries
+count-requires-clause-fits g c =
+    let e : left c.take_while.result.iter ≡ entries c.args.c.now = ap left c.take_while.ensures.source ∙ c.of.ensures in
+    let n = length-entries_of (count c.args.c.now) in
+    let b = (c.type_inv.c 1).fits in
+    inl (omega (arith, ap length e))
 
-pub returns-then-not-less : goal.returns-then-not-less
-returns-then-not-less g c =
-    let e = before-stop c.args.c.now c.count-n.result c.loop-i.i c.loop-i-test.true g.O.KeyOrder.ordering c.args.key c.key_at.result c.key_at.ensures (sym c.if-not-less.ensures) in
-    let h = c.loop-i.invariant.1 in
-    omega arith
-
-pub loop-i-preserved : goal.loop-i-preserved
-loop-i-preserved g c =
-    let e = before-go c.args.c.now c.count-n.result c.loop-i.i c.loop-i-test.true g.O.KeyOrder.ordering c.args.key c.key_at.result c.key_at.ensures (sym c.if-not-less.ensures) in
-    let h = c.loop-i.invariant.1 in
-    (c.loop-i.invariant.0, omega arith)
+pub returns : goal.returns
+returns g c =
+    let es = entries c.args.c.now in
+    let test = λ (e : Entry). g.O.KeyOrder.ordering.less e.0 c.args.key in
+    count_from_yields_List _ _ c.count.ensures.ran (YieldsList-from_take_while _ test (YieldsList-from_first pair left es (ap left c.take_while.ensures.source ∙ c.of.ensures)) c.take_while.ensures.closure c.take_while.ensures.done (λ x b q k. search (rules, tests)))
+    ∙ length-prefix_len test es ∙ before_is g.O.KeyOrder.ordering c.args.key es

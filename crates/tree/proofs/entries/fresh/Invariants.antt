@@ -1,8 +1,12 @@
-use Rattle.std.proofs.Common.{◌≡◌, false}
+use Rattle.std.proofs.Common.{◌≡◌, ◌≤◌, false}
 use Rattle.sets.specs.Sets.{has}
-use Rattle.tree.specs.Nodes.{fresh, count, entries}
-use Rattle.tree.specs.EntryLaws.{from}
+use Rattle.tree.specs.Nodes.{count, entries, fresh}
+use Rattle.tree.specs.Views.{left}
 use Rattle.tree.proofs.entries.fresh.Given as goal
 
-abbrev pub invariant-loop-i : goal.invariant-loop-i
-invariant-loop-i l = (l.n ≡ count l.c) × (fresh l.n (has l.seen) (from l.c l.n l.i) ≡ fresh l.n (λ _. false) (entries l.c))
+abbrev pub invariant-loop-entry : goal.invariant-loop-entry
+invariant-loop-entry l =
+    (goal.iterator-loop-entry).can_next l.entry-iterator
+    × (goal.iterator-loop-entry).is_finite l.entry-iterator
+    × (l.n ≡ count l.c)
+    × (fresh l.n (has l.seen) (left l.entry-iterator) ≡ fresh (count l.c) (λ _. false) (entries l.c))

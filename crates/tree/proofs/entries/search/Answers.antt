@@ -1,13 +1,21 @@
-use Rattle.std.proofs.Common.{ap, ◌∙◌}
-use Rattle.tree.specs.Nodes.{find}
-use Rattle.tree.specs.EntryLaws.{from_all, find-hit, find-miss}
+use Rattle.std.proofs.Common.{◌≡◌, eqb, sym, ap, ◌∙◌, rules, tests}
+use Rattle.std.specs.List.{find as find_first}
+use Rattle.std.specs.Option.{option_map}
+use Rattle.std.proofs.lemmas.Iterator.Search.{find_from_yields_List}
+use Rattle.std.proofs.lemmas.Iterator.Consumers.{YieldsList-from_first}
+use Rattle.tree.specs.Nodes.{entries}
+use Rattle.tree.specs.ListLaws.{find_is}
+use Rattle.tree.specs.Views.{pair, left}
 use Rattle.tree.proofs.entries.search.Goals as goal
 
-pub loop-i-init : goal.loop-i-init
-loop-i-init c = (c.count-i-end.ensures, ap (find c.args.key) (from_all c.args.c.now c.count-i-end.result c.count-i-end.ensures))
+pub returns : goal.returns
+returns c =
+    let es = entries c.args.c.now in
+    let f : option_map pair c.find.result ≡ find_first (λ e. eqb e.0 c.args.key) es = find_from_yields_List (λ e. eqb e.0 c.args.key) c.find.new.self _ c.find.result c.find.ensures.ran (YieldsList-from_first pair left es c.of.ensures) (λ x b q t. search (rules, tests)) in
+    ap (λ r. option_map (λ e. e.1) (option_map pair r)) (sym c.in_ok-entry.was) ∙ ap (option_map (λ e. e.1)) f ∙ sym (find_is c.args.key es)
 
-pub returns-then-key_at-key : goal.returns-then-key_at-key
-returns-then-key_at-key c = find-hit c.args.c.now c.count-i-end.result c.loop-i.i c.loop-i-test.true c.args.key c.key_at.result c.value_at.result c.key_at.ensures c.value_at.ensures c.if-key_at-key.true ∙ c.loop-i.invariant.1
-
-pub loop-i-preserved : goal.loop-i-preserved
-loop-i-preserved c = (c.loop-i.invariant.0, find-miss c.args.c.now c.count-i-end.result c.loop-i.i c.loop-i-test.true c.args.key c.key_at.result c.key_at.ensures c.if-key_at-key.false ∙ c.loop-i.invariant.1)
+pub returns-in_err-entry : goal.returns-in_err-entry
+returns-in_err-entry c =
+    let es = entries c.args.c.now in
+    let f : option_map pair c.find.result ≡ find_first (λ e. eqb e.0 c.args.key) es = find_from_yields_List (λ e. eqb e.0 c.args.key) c.find.new.self _ c.find.result c.find.ensures.ran (YieldsList-from_first pair left es c.of.ensures) (λ x b q t. search (rules, tests)) in
+    c.from_residual.ensures ∙ ap (λ r. option_map (λ e. e.1) (option_map pair r)) (sym c.in_err-entry.was) ∙ ap (option_map (λ e. e.1)) f ∙ sym (find_is c.args.key es)
