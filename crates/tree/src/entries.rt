@@ -6,7 +6,7 @@ ghost use Rattle.tree.specs.Nodes.{count as count_of, entries, find, absent as a
 ghost use Rattle.tree.specs.Views.{pair, left};
 
 use crate::order::KeyOrder;
-use sets::{contains, single, u32_at, union};
+use sets::{Number, contains, single, union};
 
 // A key with its value.
 #[derive(Clone, Copy, PartialEq, Eq, Debug)]
@@ -34,7 +34,7 @@ pub(crate) fn key_at(c: &[u8], i: usize) -> u32
     requires { i ≤ 255 }
     ensures { result ≡ number (part (4 + 8 * i) 4 c.now) }
 {
-    u32_at(c, 4 + 8 * i)
+    u32::read_at(c, 4 + 8 * i)
 }
 
 // Bytes without the first n of them.
@@ -73,8 +73,8 @@ impl Iterator for Entries<'_> {
     fn next(&mut self) -> Option<Entry> {
         self.count = self.count.checked_sub(1)?;
         let entry = Entry {
-            key: u32_at(self.bytes, 0),
-            value: u32_at(self.bytes, 4),
+            key: u32::read_at(self.bytes, 0),
+            value: u32::read_at(self.bytes, 4),
         };
         self.bytes = past(self.bytes, 8);
         Some(entry)

@@ -5,7 +5,7 @@ ghost use Rattle.tree.specs.declared.step.Step.TheVariants.{Lower as LowerStep, 
 
 use crate::step::Step;
 use kinds::{both, only};
-use sets::u32_at;
+use sets::Number;
 
 const LAST_PAGE: u8 = 26;
 
@@ -30,8 +30,8 @@ fn insert_of(page: u8, word: &[u8]) -> Option<Step>
     }
     Some(Step::Insert {
         page,
-        key: u32_at(word, 0),
-        value: u32_at(word, 4),
+        key: u32::read_at(word, 0),
+        value: u32::read_at(word, 4),
     })
 }
 
