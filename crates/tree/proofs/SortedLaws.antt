@@ -14,11 +14,10 @@ use Rattle.tree.specs.Nodes.{above, rising}
 use Rattle.tree.specs.Views.{pair, left}
 
 module _ {F : Type 0} (g : Mut F (Bor Entry × (Bor Entry × Unit {0})) Bool) (o : KeyOrdering) (f : F) (acts : (x y : Entry) (b : Bool) (f' : F) → CalledAtTwo g f x y b f' → (f' ≡ f) × (b ≡ o.less x.key y.key)) (r : Bool) where
-  End : Option Entry → F × Entry → Type 0
+  abbrev End : Option Entry → F × Entry → Type 0
   End e q = MatchOption e (r ≡ true) (λ y. (r ≡ false) × ((h : F) × CalledAtTwo g q.0 q.1 y false h))
 
   last : (e : Option Entry) (u j : Entries) (x : Entry) → YieldsFirstBy pair left j e u → End e (f, x) → r ≡ above o x.key (left j)
-  unfolding End
   last None u j x s m = m ∙ ap (above o x.key) (sym s.0)
   last (Some y) u j x s m = m.0 ∙ ap (λ b. b && above o y.key (left u)) (acts x y false m.1.0 m.1.1).1 ∙ ap (above o x.key) (sym s)
 
@@ -32,5 +31,5 @@ module _ {F : Type 0} (g : Mut F (Bor Entry × (Bor Entry × Unit {0})) Bool) (o
       ∙ ap (above o x.key) (sym y.1)
 
   pub rising-checked : (s : Entries) → ChecksNeighbours g (YieldsFirstBy pair left) s f r → r ≡ rising o (left s)
-  rising-checked s (inl d) = ?
-  rising-checked s (inr d) = ?
+  rising-checked s (inl d) = d.1 ∙ ap (rising o) (sym (ap left d.0.1.1 ∙ d.0.1.2.0))
+  rising-checked s (inr d) = onward d.1 d.2 d.3 d.5.1.0 d.5.0 d.0 d.4 d.5.1.2 d.6 d.5.2 d.7 ∙ ap (rising o) (sym d.5.1.1)
