@@ -6,7 +6,7 @@ use crate::refusal::Refusal;
 use sets::size;
 
 // How many bytes of a page an operation sees.
-pub(crate) const CONTENTS: usize = 224;
+pub const CONTENTS: usize = 224;
 
 // Refuses two buffers that are not as long as the contents of the pages read and of the pages written.
 pub fn sized(sets: (u64, u64), old: usize, new: usize) -> Result<(), Refusal>

@@ -11,7 +11,7 @@ mod refusal;
 mod sets_of;
 mod write;
 
-pub use buffers::sized;
+pub use buffers::{CONTENTS, sized};
 pub use kind::Kind;
 pub use op::Op;
 pub use page::PageKind;

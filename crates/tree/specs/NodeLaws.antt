@@ -2,6 +2,7 @@
 use Rattle.std.specs.Prelude.{◌≡◌, ℕ, zero, suc, ◌+◌, ◌-◌, ◌*◌, ◌<◌, ◌≤◌, max, Bool, true, false, cond, ◌⊎◌, List, [], ◌∷◌, ◌++◌, length, take, drop, replicate, ◌==◌, ◌≢◌, refl}
 use Rattle.std.proofs.Common.{inl, inr, subst, ◌∙◌}
 use Rattle.std.proofs.Math.Path.{sym, ap, ap₂}
+use mir.Val.{bool_byte}
 use native.Mathlib.Omega.{arith}
 use borrow.Rule.Slice.PartMut.{put_mid, post_of}
 use Rattle.std.specs.List.{AllByRecursion}
@@ -146,25 +147,24 @@ module _ (c : List ℕ) (len : length c ≡ 224) (few : count c ≤ 26) (all : A
       ∙ ap (λ x. take x (drop (4 + 8 * j) c)) (sym e)
 
   -- a key put in
-  pub renew-put : (o : KeyOrdering) → TotalOrder o → (m k v i s : ℕ) → i ≡ before o k (entries c) → s ≡ hit k (drop (before o k (entries c)) (entries c))
-      → head_of m (count c + 1 - s) ++ (part 4 (8 * i) c ++ (entry_bytes (k, v) ++ (part (4 + 8 * (i + s)) (8 * (count c - (i + s))) c ++ drop (4 + 8 * (count c + 1 - s)) c))) ≡ renew m (put o k v (entries c)) c
+  pub renew-put : (o : KeyOrdering) → TotalOrder o → (m k v i j : ℕ) → i ≡ before o k (entries c) → j ≡ before o k (entries c) + hit k (drop (before o k (entries c)) (entries c))
+      → head_of m (count c + 1 - (j - i)) ++ (part 4 (8 * i) c ++ (entry_bytes (k, v) ++ (part (4 + 8 * j) (8 * (count c - j)) c ++ drop (4 + 8 * (count c + 1 - (j - i))) c))) ≡ renew m (put o k v (entries c)) c
   unfolding renew
-  renew-put o t m k v i s ei es =
+  renew-put o t m k v i j ei ej =
       let w = before-within o k (entries c) in
       let h = hit-small k (drop (before o k (entries c)) (entries c)) in
       let le = length-entries in
-      let is : i + s ≤ count c = omega arith in
-      let bl : length (put o k v (entries c)) ≡ count c + 1 - s = put-length o t k v (entries c) ∙ omega arith in
-      let same : i + s ≡ before o k (entries c) + hit k (drop (before o k (entries c)) (entries c)) = omega arith in
-      let lay : put o k v (entries c) ≡ take i (entries c) ++ ((k, v) ∷ drop (i + s) (entries c)) = put_is o t k v (entries c) ∙ ap₂ (λ x y. take x (entries c) ++ ((k, v) ∷ drop y (entries c))) (sym ei) (sym same) in
-      let body : entries_bytes (put o k v (entries c)) ≡ part 4 (8 * i) c ++ (entry_bytes (k, v) ++ part (4 + 8 * (i + s)) (8 * (count c - (i + s))) c) =
-      ap entries_bytes lay ∙ entries_bytes-append (take i (entries c)) ((k, v) ∷ drop (i + s) (entries c)) ∙ ap₂ ◌++◌ (bytes-front i (omega arith)) (ap (λ x. entry_bytes (k, v) ++ x) (bytes_back (i + s) (8 * (count c - (i + s))) is refl)) in
-      let none : 8 * (count c - (count c + 1 - s)) ≡ 0 = omega arith in
-      let most : max (count c + 1 - s) (count c) ≡ count c + 1 - s = omega arith in
+      let is : j ≤ count c = omega arith in
+      let bl : length (put o k v (entries c)) ≡ count c + 1 - (j - i) = put-length o t k v (entries c) ∙ omega arith in
+      let lay : put o k v (entries c) ≡ take i (entries c) ++ ((k, v) ∷ drop j (entries c)) = put_is o t k v (entries c) ∙ ap₂ (λ x y. take x (entries c) ++ ((k, v) ∷ drop y (entries c))) (sym ei) (sym ej) in
+      let body : entries_bytes (put o k v (entries c)) ≡ part 4 (8 * i) c ++ (entry_bytes (k, v) ++ part (4 + 8 * j) (8 * (count c - j)) c) =
+      ap entries_bytes lay ∙ entries_bytes-append (take i (entries c)) ((k, v) ∷ drop j (entries c)) ∙ ap₂ ◌++◌ (bytes-front i (omega arith)) (ap (λ x. entry_bytes (k, v) ++ x) (bytes_back j (8 * (count c - j)) is refl)) in
+      let none : 8 * (count c - (count c + 1 - (j - i))) ≡ 0 = omega arith in
+      let most : max (count c + 1 - (j - i)) (count c) ≡ count c + 1 - (j - i) = omega arith in
       sym (ap (λ n. head_of m n ++ (entries_bytes (put o k v (entries c)) ++ (replicate (8 * (count c - n)) 0 ++ drop (4 + 8 * max n (count c)) c))) bl
-      ∙ ap₂ (λ x y. head_of m (count c + 1 - s) ++ (entries_bytes (put o k v (entries c)) ++ (replicate x 0 ++ drop (4 + 8 * y) c))) none most
-      ∙ ap (λ x. head_of m (count c + 1 - s) ++ (x ++ drop (4 + 8 * (count c + 1 - s)) c)) body
-      ∙ ap (λ x. head_of m (count c + 1 - s) ++ x) (joined (part 4 (8 * i) c) (entry_bytes (k, v)) (part (4 + 8 * (i + s)) (8 * (count c - (i + s))) c) (drop (4 + 8 * (count c + 1 - s)) c)))
+      ∙ ap₂ (λ x y. head_of m (count c + 1 - (j - i)) ++ (entries_bytes (put o k v (entries c)) ++ (replicate x 0 ++ drop (4 + 8 * y) c))) none most
+      ∙ ap (λ x. head_of m (count c + 1 - (j - i)) ++ (x ++ drop (4 + 8 * (count c + 1 - (j - i))) c)) body
+      ∙ ap (λ x. head_of m (count c + 1 - (j - i)) ++ x) (joined (part 4 (8 * i) c) (entry_bytes (k, v)) (part (4 + 8 * j) (8 * (count c - j)) c) (drop (4 + 8 * (count c + 1 - (j - i))) c)))
     where
       joined : (w x y z : List ℕ) → (w ++ (x ++ y)) ++ z ≡ w ++ (x ++ (y ++ z))
       joined w x y z = simp append_assoc
@@ -190,15 +190,16 @@ module _ (c : List ℕ) (len : length c ≡ 224) (few : count c ≤ 26) (all : A
       sym (ap (λ n. head_of 1 n ++ (entries_bytes es ++ (replicate (8 * (0 - n)) 0 ++ drop (4 + 8 * max n 0) (replicate 224 0)))) l
       ∙ ap (λ x. head_of 1 13 ++ (x ++ replicate 116 0)) body)
 
-  pub renew-lower : count c ≡ 26 → head_of 1 13 ++ (part 4 104 c ++ replicate 116 0) ≡ renew 1 (take 13 (entries c)) blank
-  renew-lower full =
+  -- 13 entries from number i on
+  pub renew-half : (i : ℕ) → i ≤ 13 → count c ≡ 26 → head_of 1 13 ++ (part (4 + 8 * i) 104 c ++ replicate 116 0) ≡ renew 1 (take 13 (drop i (entries c))) blank
+  unfolding entries
+  renew-half i l full =
       let le = length-entries in
-      renew-blank (take 13 (entries c)) (part 4 104 c) (simp length-take (omega arith)) (bytes-front 13 (omega arith))
-
-  pub renew-upper : count c ≡ 26 → head_of 1 13 ++ (part 108 104 c ++ replicate 116 0) ≡ renew 1 (drop 13 (entries c)) blank
-  renew-upper full =
-      let le = length-entries in
-      renew-blank (drop 13 (entries c)) (part 108 104 c) (simp length-drop (omega arith)) (bytes_back 13 104 (omega arith) (omega arith))
+      let some : take 13 (drop i (entries c)) ≡ entries_of 13 (drop (4 + 8 * i) c) =
+      ap (take 13) (drop-entries_of i (count c) (drop 4 c) ∙ ap (entries_of (count c - i)) (drop-drop (8 * i) 4 c)) ∙ take-entries_of 13 (count c - i) (drop (4 + 8 * i) c) (omega arith) in
+      let body : entries_bytes (take 13 (drop i (entries c))) ≡ part (4 + 8 * i) 104 c =
+      ap entries_bytes some ∙ bytes-entries_of 13 (drop (4 + 8 * i) c) (simp length-drop (omega arith)) (All-drop (λ b. b < 256) (4 + 8 * i) c all) in
+      renew-blank (take 13 (drop i (entries c))) (part (4 + 8 * i) 104 c) (simp (length-take, length-drop) (omega arith)) body
 
 -- the entries of a page from number i on
 pub drop-entries : (c : List ℕ) (n i : ℕ) → n ≡ count c → drop i (entries c) ≡ from c n i
@@ -208,11 +209,13 @@ drop-entries c n i e = drop-entries_of i (count c) (drop 4 c) ∙ ap₂ (λ m t.
 pub hit-past : (c : List ℕ) (n i k : ℕ) → n ≡ count c → n ≤ i → 0 ≡ hit k (drop i (entries c))
 hit-past c n i k e l = sym (ap (hit k) (drop-entries c n i e ∙ from-none c n i l))
 
-pub hit-there : (c : List ℕ) (n i k x : ℕ) → n ≡ count c → i < n → x ≡ (entry_at c i).0 → x ≡ k → 1 ≡ hit k (drop i (entries c))
-hit-there c n i k x e l ex h = sym (ap (hit k) (drop-entries c n i e ∙ from_more c n i l) ∙ ap (λ b. cond b 1 0) (eq-eqb (entry_at c i).0 k (sym ex ∙ h)))
+pub hit-here : (c : List ℕ) (n i k x : ℕ) → n ≡ count c → i < n → x ≡ (entry_at c i).0 → cond (x == k) 1 0 ≡ hit k (drop i (entries c))
+hit-here c n i k x e l ex = sym (ap (hit k) (drop-entries c n i e ∙ from_more c n i l) ∙ ap (λ y. cond (y == k) 1 0) (sym ex))
 
-pub hit_other : (c : List ℕ) (n i k x : ℕ) → n ≡ count c → i < n → x ≡ (entry_at c i).0 → (x ≢ k) → 0 ≡ hit k (drop i (entries c))
-hit_other c n i k x e l ex h = sym (ap (hit k) (drop-entries c n i e ∙ from_more c n i l) ∙ ap (λ b. cond b 1 0) (ne_eqb (entry_at c i).0 k (λ q. h (ex ∙ q))))
+-- a test as a number
+pub byte_is : (b : Bool) → bool_byte b ≡ cond b 1 0
+byte_is true = refl
+byte_is false = refl
 
 -- two pages side by side
 pub two-pages : (k : ℕ) (new x y : List ℕ) → length new ≡ k + k → length x ≡ k → put_mid k k (x ++ post_of 0 k new) y ≡ x ++ y

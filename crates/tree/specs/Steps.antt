@@ -54,6 +54,10 @@ lower o c = cond (full_leaf o c) (Ok (renew 1 (take 13 (entries c)) blank)) (Err
 abbrev pub upper : KeyOrdering → List ℕ → Result (List ℕ) ℕ
 upper o c = cond (full_leaf o c) (Ok (renew 1 (drop 13 (entries c)) blank)) (Err 3)
 
+-- a fresh leaf of the 13 entries from number i on
+abbrev pub half : KeyOrdering → ℕ → List ℕ → Result (List ℕ) ℕ
+half o i c = cond (full_leaf o c) (Ok (renew 1 (take 13 (drop i (entries c))) blank)) (Err 3)
+
 -- whether a leaf can be cut and page q put into the root
 abbrev pub cut_form : KeyOrdering → ℕ → List ℕ → List ℕ → Bool
 cut_form o q root leaf = full_leaf o leaf && (root_form o root && (count root + 1 == q && absent (middle_key leaf) (entries root)))

@@ -2,7 +2,7 @@
 use Rattle.std.specs.Prelude.{◌≡◌, ℕ, zero, suc, ◌+◌, ◌-◌, ◌*◌, ◌/◌, ◌<◌, ◌≤◌, max, Bool, true, false, cond, ◌&&◌, ◌||◌, List, [], ◌∷◌, ◌++◌, length, take, drop, replicate, Some, None, Ok, Err, Option, Result, ◌==◌, ◌≢◌, nat_le, slice_index, refl}
 use Rattle.std.proofs.Common.{sym, ap, subst, ◌∙◌, arith}
 use Rattle.std.proofs.ByRecursion.{All-take, All-drop, All-append}
-use Rattle.std.proofs.lemmas.List.{length-append, length-take, length-drop, length-replicate, length-take-le}
+use Rattle.std.proofs.lemmas.List.{length-append, length-take, length-drop, length-replicate, length-take-le, take_all}
 use Rattle.std.proofs.lemmas.Bool.{cond-true, cond-false, and_parts, eqb-true, leb-true, ne_eqb}
 use Rattle.sets.specs.Sets.{size}
 use Rattle.sets.specs.Words.{bytes_of}
@@ -12,12 +12,24 @@ use Rattle.tree.specs.declared.step.Step.{Step}
 use Rattle.tree.specs.declared.step.Step.TheVariants.{Insert, Lower, Upper, Cut, Grow}
 use Rattle.tree.specs.Orders.{KeyOrdering, TotalOrder}
 use Rattle.tree.specs.Nodes.{Entry, mark, count, entries, entry_bytes, entries_bytes, put, renew, rising, absent, well_formed, leaf_form, full_leaf, root_form, middle_key}
-use Rattle.tree.specs.Steps.{cut_form, blank, parse, sets, change, scope_by, effect_by, tree_meaning}
+use Rattle.tree.specs.Steps.{cut_form, blank, half, upper, parse, sets, change, scope_by, effect_by, tree_meaning}
 use Rattle.tree.specs.NodeLaws.{put-length, length-entries_of}
 use Rattle.tree.specs.StepLaws.{Good, parse-good, step-scoped}
 
 pub full_count : (o : KeyOrdering) (c : List ℕ) → full_leaf o c ≡ true → count c ≡ 26
 full_count o c h = eqb-true (count c) 26 (and_parts (count c == 26) (leaf_form o c) h).0
+
+-- a full leaf's upper half is its 13 entries from number 13 on
+pub half_upper : (o : KeyOrdering) (c : List ℕ) → half o 13 c ≡ upper o c
+unfolding entries
+half_upper o c = by (full_leaf o c) (full_count o c)
+  where
+    by : (b : Bool) → (b ≡ true → count c ≡ 26) → cond {A = Result (List ℕ) ℕ} b (Ok (renew 1 (take 13 (drop 13 (entries c))) blank)) (Err 3) ≡ cond b (Ok (renew 1 (drop 13 (entries c)) blank)) (Err 3)
+    by true h =
+        let f = h refl in
+        let n = length-entries_of (count c) (drop 4 c) in
+        ap (λ es. Ok (renew 1 es blank)) (take_all 13 (drop 13 (entries c)) (simp length-drop (omega arith)))
+    by false h = refl
 
 pub well-few : (o : KeyOrdering) (c : List ℕ) → well_formed o c ≡ true → count c ≤ 26
 well-few o c h =

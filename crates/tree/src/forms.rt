@@ -8,20 +8,13 @@ use crate::order::KeyOrder;
 
 pub const FULL: usize = 26;
 
+pub const HALF: usize = 13;
+
 // Whether bytes 2 and 3 are zero, there are at most 26 entries, and keys rise.
 fn well_formed<O: KeyOrder>(c: &[u8]) -> bool
     ensures { result ≡ well_formed O.KeyOrder.ordering c.now }
 {
-    if byte(c, 2) != 0 {
-        return false;
-    }
-    if byte(c, 3) != 0 {
-        return false;
-    }
-    if count(c) > FULL {
-        return false;
-    }
-    rising::<O>(c)
+    byte(c, 2) == 0 && byte(c, 3) == 0 && count(c) <= FULL && rising::<O>(c)
 }
 
 // Whether a page is a leaf.
@@ -29,57 +22,28 @@ pub fn is_leaf<O: KeyOrder>(c: &[u8]) -> bool
     ensures { result ≡ leaf_form O.KeyOrder.ordering c.now }
 {
     let mark = byte(c, 0);
-    if mark > 1 {
-        return false;
-    }
-    if mark == 0 && count(c) != 0 {
-        return false;
-    }
-    well_formed::<O>(c)
+    (mark == 1 || mark == 0 && count(c) == 0) && well_formed::<O>(c)
 }
 
 // Whether a page is a leaf of 26 entries.
 pub fn is_full_leaf<O: KeyOrder>(c: &[u8]) -> bool
     ensures { result ≡ full_leaf O.KeyOrder.ordering c.now }
 {
-    if count(c) != FULL {
-        return false;
-    }
-    is_leaf::<O>(c)
+    count(c) == FULL && is_leaf::<O>(c)
 }
 
 // Whether a page is a root.
 pub fn is_root<O: KeyOrder>(c: &[u8]) -> bool
     ensures { result ≡ root_form O.KeyOrder.ordering c.now }
 {
-    let n = count(c);
-    if byte(c, 0) != 2 {
-        return false;
-    }
-    if n < 2 || n > FULL {
-        return false;
-    }
-    if key_at(c, 0) != O::least_key() {
-        return false;
-    }
-    if !fresh(c) {
-        return false;
-    }
-    well_formed::<O>(c)
+    let marked = byte(c, 0) == 2 && count(c) >= 2 && count(c) <= FULL;
+    marked && key_at(c, 0) == O::least_key() && fresh(c) && well_formed::<O>(c)
 }
 
 // Whether a leaf can be cut and page q put into the root.
 pub fn can_cut<O: KeyOrder>(q: u8, root: &[u8], leaf: &[u8]) -> bool
     ensures { result ≡ cut_form O.KeyOrder.ordering q root.now leaf.now }
 {
-    if !is_full_leaf::<O>(leaf) {
-        return false;
-    }
-    if !is_root::<O>(root) {
-        return false;
-    }
-    if count(root) + 1 != q as usize {
-        return false;
-    }
-    absent(root, key_at(leaf, 13))
+    let known = count(root) + 1 == usize::from(q);
+    is_full_leaf::<O>(leaf) && is_root::<O>(root) && known && absent(root, key_at(leaf, HALF))
 }

@@ -1,7 +1,7 @@
 // From a body to a step, and the pages that it touches.
 ghost use Rattle.std.specs.Prelude.{◌≡◌, ◌&&◌, nat_le};
 ghost use Rattle.tree.specs.Steps.{insert_from, page_pair, when, parse as parse_of, sets as sets_of};
-ghost use Rattle.tree.specs.declared.step.Step.TheVariants.{Lower as LowerStep, Upper as UpperStep, Cut as CutStep};
+ghost use Rattle.tree.specs.declared.step.Step.TheVariants.{Cut as CutStep};
 
 use crate::step::Step;
 use kinds::{both, only};
@@ -13,58 +13,23 @@ const LAST_PAGE: u8 = 26;
 fn two_pages(p: u8, q: u8) -> bool
     ensures { result ≡ page_pair p q }
 {
-    if p > LAST_PAGE || q == 0 {
-        return false;
-    }
-    if q > LAST_PAGE {
-        return false;
-    }
-    p != q
+    p <= LAST_PAGE && q >= 1 && q <= LAST_PAGE && p != q
 }
 
 fn insert_of(page: u8, word: &[u8]) -> Option<Step>
     ensures { result ≡ insert_from page word.now }
 {
-    if page > LAST_PAGE || word.len() != 8 {
-        return None;
-    }
-    Some(Step::Insert {
+    (page <= LAST_PAGE && word.len() == 8).then_some(Step::Insert {
         page,
         key: u32::read_at(word, 0),
         value: u32::read_at(word, 4),
     })
 }
 
-fn lower_of(from: u8, to: u8) -> Option<Step>
-    ensures { result ≡ when (page_pair from to) (LowerStep from to) }
-{
-    if two_pages(from, to) {
-        Some(Step::Lower { from, to })
-    } else {
-        None
-    }
-}
-
-fn upper_of(from: u8, to: u8) -> Option<Step>
-    ensures { result ≡ when (page_pair from to) (UpperStep from to) }
-{
-    if two_pages(from, to) {
-        Some(Step::Upper { from, to })
-    } else {
-        None
-    }
-}
-
 fn cut_of(leaf: u8, upper: u8) -> Option<Step>
     ensures { result ≡ when (nat_le 1 leaf && page_pair leaf upper) (CutStep leaf upper) }
 {
-    if leaf == 0 {
-        return None;
-    }
-    if !two_pages(leaf, upper) {
-        return None;
-    }
-    Some(Step::Cut { leaf, upper })
+    (leaf >= 1 && two_pages(leaf, upper)).then_some(Step::Cut { leaf, upper })
 }
 
 impl Step {
@@ -72,11 +37,11 @@ impl Step {
     pub fn parse(body: &[u8]) -> Option<Step>
         ensures { result ≡ parse_of body.now }
     {
-        match body {
-            [1, page, word @ ..] => insert_of(*page, word),
-            [2, from, to] => lower_of(*from, *to),
-            [3, from, to] => upper_of(*from, *to),
-            [4, leaf, upper] => cut_of(*leaf, *upper),
+        match *body {
+            [1, page, ref word @ ..] => insert_of(page, word),
+            [2, from, to] => two_pages(from, to).then_some(Step::Lower { from, to }),
+            [3, from, to] => two_pages(from, to).then_some(Step::Upper { from, to }),
+            [4, leaf, upper] => cut_of(leaf, upper),
             [5] => Some(Step::Grow),
             _ => None,
         }

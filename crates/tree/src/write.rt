@@ -2,12 +2,13 @@
 ghost use Rattle.std.specs.Prelude.{◌≡◌, ◌+◌, ◌-◌, ◌*◌, ◌≤◌, ◌++◌, length, take, drop, replicate};
 ghost use Rattle.sets.specs.Words.{part};
 ghost use Rattle.tree.specs.Nodes.{count as count_of, head_of, entry_bytes};
+ghost use Rattle.tree.specs.Views.{pair};
 
-use crate::entries::count;
+use crate::entries::{Entry, count};
+use crate::forms::HALF;
+use kinds::CONTENTS;
+use std::ops::Range;
 
-const CONTENTS: usize = 224;
-
-const HALF: usize = 13;
 // Where the entries end, and where the lower half of them does.
 const END: usize = 212;
 
@@ -31,41 +32,35 @@ fn place_head(new: &mut [u8], mark: u8, n: u8)
 }
 
 // Writes an entry.
-fn place_entry(new: &mut [u8], at: usize, key: u32, value: u32)
+fn place_entry(new: &mut [u8], at: usize, entry: Entry)
     requires { at + 8 ≤ length new.old }
-    ensures { take (at + 8) new.new ≡ take at new.old ++ entry_bytes (key, value) }
+    ensures { take (at + 8) new.new ≡ take at new.old ++ entry_bytes (pair entry) }
 {
-    let word = key.to_le_bytes();
+    let word = entry.key.to_le_bytes();
     place(new, at, &word);
-    let word = value.to_le_bytes();
+    let word = entry.value.to_le_bytes();
     place(new, at + 4, &word);
 }
 
-// Writes a page with one entry put in before entry i, in place of the `skip` entries there.
-pub(crate) fn splice(
-    new: &mut [u8],
-    old: &[u8],
-    mark: u8,
-    i: usize,
-    skip: usize,
-    key: u32,
-    value: u32,
-)
+// Writes a page with an entry in place of the entries of a range: of one, or of none.
+pub(crate) fn splice(old: &[u8], new: &mut [u8], mark: u8, range: Range<usize>, entry: Entry)
     requires lengths { (length old.now ≡ 224) × (length new.old ≡ 224) }
-    requires within { (i + skip ≤ count_of old.now) × ((skip ≤ 1) × (count_of old.now + 1 ≤ 26 + skip)) }
-    ensures { new.new ≡ head_of mark (count_of old.now + 1 - skip) ++ (part 4 (8 * i) old.now ++ (entry_bytes (key, value) ++ (part (4 + 8 * (i + skip)) (8 * (count_of old.now - (i + skip))) old.now ++ drop (4 + 8 * (count_of old.now + 1 - skip)) old.now))) }
+    requires order { (range.start ≤ range.end) × (range.end ≤ range.start + 1) }
+    requires within { (range.end ≤ count_of old.now) × (count_of old.now + 1 ≤ 26 + (range.end - range.start)) }
+    ensures { let m = count_of old.now + 1 - (range.end - range.start) in new.new ≡ head_of mark m ++ (part 4 (8 * range.start) old.now ++ (entry_bytes (pair entry) ++ (part (4 + 8 * range.end) (8 * (count_of old.now - range.end)) old.now ++ drop (4 + 8 * m) old.now))) }
 {
     let n = count(old);
-    let m = n + 1 - skip;
+    let Range { start, end } = range;
+    let m = n + 1 - (end - start);
     place_head(new, mark, m as u8);
-    place(new, 4, &old[4..4 + 8 * i]);
-    place_entry(new, 4 + 8 * i, key, value);
-    place(new, 12 + 8 * i, &old[4 + 8 * (i + skip)..4 + 8 * n]);
+    place(new, 4, &old[4..4 + 8 * start]);
+    place_entry(new, 4 + 8 * start, entry);
+    place(new, 12 + 8 * start, &old[4 + 8 * end..4 + 8 * n]);
     place(new, 4 + 8 * m, &old[4 + 8 * m..CONTENTS]);
 }
 
 // Writes a fresh leaf of 13 entries from entry `from` on.
-pub(crate) fn halve(new: &mut [u8], old: &[u8], from: usize)
+pub(crate) fn halve(old: &[u8], new: &mut [u8], from: usize)
     requires { (length old.now ≡ 224) × ((length new.old ≡ 224) × (from ≤ 13)) }
     ensures { new.new ≡ head_of 1 13 ++ (part (4 + 8 * from) 104 old.now ++ replicate 116 0) }
 {
@@ -76,7 +71,7 @@ pub(crate) fn halve(new: &mut [u8], old: &[u8], from: usize)
 }
 
 // Writes a leaf that keeps the lower half of its entries.
-pub(crate) fn shrink(new: &mut [u8], old: &[u8])
+pub(crate) fn shrink(old: &[u8], new: &mut [u8])
     requires { (length old.now ≡ 224) × (length new.old ≡ 224) }
     ensures { new.new ≡ head_of 1 13 ++ (part 4 104 old.now ++ (replicate 104 0 ++ drop 212 old.now)) }
 {
@@ -88,13 +83,27 @@ pub(crate) fn shrink(new: &mut [u8], old: &[u8])
 }
 
 // Writes a root of two entries over pages 1 and 2.
-pub(crate) fn plant(new: &mut [u8], old: &[u8], least: u32, middle: u32)
+pub(crate) fn plant(old: &[u8], new: &mut [u8], least: u32, middle: u32)
     requires { (length old.now ≡ 224) × (length new.old ≡ 224) }
     ensures { new.new ≡ head_of 2 2 ++ (entry_bytes (least, 1) ++ (entry_bytes (middle, 2) ++ (replicate 192 0 ++ drop 212 old.now))) }
 {
     place_head(new, 2, 2);
-    place_entry(new, 4, least, 1);
-    place_entry(new, 12, middle, 2);
+    place_entry(
+        new,
+        4,
+        Entry {
+            key: least,
+            value: 1,
+        },
+    );
+    place_entry(
+        new,
+        12,
+        Entry {
+            key: middle,
+            value: 2,
+        },
+    );
     let zeros = [0u8; 192];
     place(new, 20, &zeros);
     place(new, END, &old[END..CONTENTS]);

@@ -30,8 +30,9 @@ put-requires g c =
     let lr : length (take 224 old) ≡ 224 = length-take-le 224 old (omega arith) in
     let ln : length (take 224 c.args.new.now) ≡ 224 = length-take-le 224 c.args.new.now (omega arith) in
     let few : count (take 224 old) ≤ 26 = omega arith in
+    let qe : c.from.result ≡ q = c.from.ensures in
     let le = length-entries (take 224 old) lr few all in
-    let pl = put-length o g.met.O.KeyOrder.ordered c.key_at.result q (entries (take 224 old)) in
+    let pl = put-length o g.met.O.KeyOrder.ordered c.key_at.result c.from.result (entries (take 224 old)) in
     record { lengths = (lr, ln); few = (few, omega arith) }
 
 pub returns : goal.returns
@@ -47,7 +48,7 @@ returns g c =
     let ll : length (drop 224 old) ≡ 224 = simp length-drop (omega arith) in
     let few : count (drop 224 old) ≤ 26 = omega arith in
     let k : c.key_at.result ≡ middle_key (drop 224 old) = c.key_at.ensures ∙ ap middle_key leaf in
-    let root : c.put.new.new ≡ renew 2 (put o (middle_key (drop 224 old)) q (entries (take 224 old))) (take 224 old) = c.put.ensures ∙ ap (λ x. renew 2 (put o x q (entries (take 224 old))) (take 224 old)) k in
+    let root : c.put.new.new ≡ renew 2 (put o (middle_key (drop 224 old)) q (entries (take 224 old))) (take 224 old) = c.put.ensures ∙ ap₂ (λ x y. renew 2 (put o x y (entries (take 224 old))) (take 224 old)) k c.from.ensures in
     let low : c.shrink.new.new ≡ renew 1 (take 13 (entries (drop 224 old))) (drop 224 old) =
     c.shrink.ensures ∙ ap (λ t. head_of 1 13 ++ (part 4 104 t ++ (replicate 104 0 ++ drop 212 t))) leaf ∙ renew-shrink (drop 224 old) ll few (All-drop (λ x. x < 256) 224 old every) parts.0 in
     let lx : length c.put.new.new ≡ 224 = c.put.auto.new ∙ length-take-le 224 new (omega arith) in
