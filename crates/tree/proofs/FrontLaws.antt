@@ -5,7 +5,7 @@ use Rattle.std.proofs.lemmas.List.{append_assoc, length-take, length-drop, take_
 use Rattle.std.proofs.lemmas.Slice.{take-put_mid}
 use Rattle.sets.specs.Words.{bytes_of, part}
 use Rattle.sets.proofs.WordLaws.{bytes-length}
-use Rattle.tree.specs.Nodes.{Entry, entry_bytes}
+use Rattle.tree.specs.Nodes.{entry_bytes}
 
 -- one more piece
 pub front-more : (before after f x y : List ℕ) (a b : ℕ) → take (a + length x) after ≡ take a before ++ x → take a before ≡ f → x ≡ y → b ≡ a + length y → take b after ≡ f ++ y
@@ -44,9 +44,6 @@ entry-placed n0 n1 n2 w1 w2 at k v e1 e2 h1 h2 =
     let l2 = bytes-length 4 v in
     let f1 : take (at + 4) n1 ≡ take at n0 ++ bytes_of 4 k = front-more n0 n1 (take at n0) w1 (bytes_of 4 k) at (at + 4) e1 refl h1 (omega arith) in
     front-more n1 n2 (take at n0 ++ bytes_of 4 k) w2 (bytes_of 4 v) (at + 4) (at + 8) e2 f1 h2 (omega arith) ∙ append_assoc (take at n0) (bytes_of 4 k) (bytes_of 4 v)
-
-pub entry_length : (e : Entry) → length (entry_bytes e) ≡ 8
-entry_length e = refl
 
 -- the pieces of each page
 pub spliced : (h p e q r n1 n2 n3 n4 n5 x2 x4 x5 c : List ℕ) (a i j n m : ℕ)

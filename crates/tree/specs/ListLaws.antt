@@ -1,6 +1,6 @@
 -- Lists of entries in the library's words.
-use Rattle.std.specs.Prelude.{◌≡◌, ℕ, suc, ◌+◌, Bool, true, false, cond, not, ◌&&◌, List, [], ◌∷◌, Option, Some, None, ◌==◌, refl}
-use Rattle.std.proofs.Common.{sym, ap, ◌∙◌, arith}
+use Rattle.std.specs.Prelude.{◌≡◌, ℕ, suc, ◌+◌, Bool, true, false, cond, not, ◌&&◌, List, [], ◌∷◌, Some, ◌==◌, refl}
+use Rattle.std.proofs.Common.{arith}
 use Rattle.std.specs.List.{find as find_first, prefix_len}
 use Rattle.std.specs.Option.{option_map, is_none}
 use Rattle.tree.specs.Orders.{KeyOrdering}

@@ -42,6 +42,8 @@ fn place_entry(new: &mut [u8], at: usize, entry: Entry)
     place(new, at + 4, &word);
 }
 
+// Kept: slices whose lengths are asked, not arrays: each step would unwrap its buffers into arrays, and a cut its four.
+
 // Writes a page with an entry in place of the entries of a range: of one, or of none.
 pub(crate) fn splice(old: &[u8], new: &mut [u8], mark: u8, range: Range<usize>, entry: Entry)
     requires lengths { (length old.now ≡ 224) × (length new.old ≡ 224) }

@@ -1,6 +1,6 @@
-use Rattle.std.proofs.Common.{◌≡◌, false, ap, ap₂, ◌∙◌}
+use Rattle.std.proofs.Common.{ap, ap₂, ◌∙◌}
 use Rattle.sets.specs.Sets.{has}
-use Rattle.tree.specs.Nodes.{count, fresh, entries}
+use Rattle.tree.specs.Nodes.{count, fresh}
 use Rattle.tree.specs.Views.{left}
 use Rattle.tree.specs.EntryLaws.{seen_none}
 use Rattle.tree.proofs.entries.fresh.Goals as goal

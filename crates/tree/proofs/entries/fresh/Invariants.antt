@@ -1,4 +1,4 @@
-use Rattle.std.proofs.Common.{◌≡◌, ◌≤◌, false}
+use Rattle.std.proofs.Common.{◌≡◌, false}
 use Rattle.sets.specs.Sets.{has}
 use Rattle.tree.specs.Nodes.{count, entries, fresh}
 use Rattle.tree.specs.Views.{left}

@@ -1,4 +1,4 @@
-use Rattle.std.proofs.Common.{◌≡◌, ap, ◌∙◌, rules}
+use Rattle.std.proofs.Common.{ap, ◌∙◌, rules}
 use Rattle.tree.specs.Nodes.{rising}
 use Rattle.tree.proofs.SortedLaws.{rising-checked}
 use Rattle.tree.proofs.entries.rising.Goals as goal
