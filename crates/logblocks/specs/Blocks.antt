@@ -1,5 +1,6 @@
 -- The blocks of the log, 256 bytes each: records, and the header.
 use Rattle.std.specs.Prelude.{ℕ, ◌+◌, ◌-◌, Bool, true, false, cond, not, ◌&&◌, List, [], ◌∷◌, ◌++◌, length, take, drop, replicate, Some, None, codes, Option, ◌==◌, nat_le, slice_index}
+use Rattle.std.specs.List.{list_all}
 use Rattle.sets.specs.Words.{number, bytes_of, part}
 
 -- what a record says: its number, the pages read, the pages written, and the body
@@ -11,8 +12,7 @@ pub record Entry : Type 0 where
 
 -- only zeros
 abbrev pub zeros : List ℕ → Bool
-zeros [] = true
-zeros (b ∷ bs) = b == 0 && zeros bs
+zeros bs = list_all (λ b. b == 0) bs
 
 -- the 20 bytes before the body's length
 abbrev pub head_of : Entry → List ℕ

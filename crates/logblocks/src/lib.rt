@@ -2,8 +2,12 @@
 #![tactic(auto)]
 
 mod header;
+mod misfit;
 mod record;
 mod zeros;
 
 pub use header::{header_block, read_header, write_header};
+pub use misfit::Misfit;
 pub use record::Record;
+
+const BLOCK: usize = 256;

@@ -1,12 +1,13 @@
 // Records: which operation ran, the pages that it read and wrote, and its body.
-ghost use Rattle.std.specs.Prelude.{◌≡◌, true, ◌&&◌, length, if◌then◌else◌, Some, ◌==◌, nat_le};
+ghost use Rattle.std.specs.Prelude.{◌≡◌, ◌≢◌, ◌<◌, ◌&&◌, ◌↔◌, length, if◌then◌else◌, Some, is_ok, IsOk, IsErrOf, ◌==◌, nat_le};
 ghost use Rattle.logblocks.specs.Blocks.{Entry, is_record_block, record_in, block_of};
 ghost use Rattle.logblocks.specs.Views.{view, viewed};
 
 use crate::zeros::all_zero;
+use crate::{BLOCK, Misfit};
 use sets::{put_u32, put_u64, u32_at, u64_at};
 
-#[derive(Clone, Copy)]
+#[derive(Clone, Copy, Debug, PartialEq, Eq)]
 pub struct Record<'a> {
     pub number: u32,
     pub reads: u64,
@@ -14,22 +15,15 @@ pub struct Record<'a> {
     pub body: &'a [u8],
 }
 
-const BLOCK: usize = 256;
-
 const LONGEST: usize = 232;
 
 // Whether a block is a record.
 fn is_record(block: &[u8]) -> bool
     ensures { result ≡ is_record_block block.now }
 {
-    if block.len() != BLOCK {
-        return false;
-    }
-    let len = block[20] as usize;
-    if len > LONGEST {
-        return false;
-    }
-    all_zero(&block[21 + len..])
+    block.len() == BLOCK
+        && block[20] as usize <= LONGEST
+        && all_zero(&block[21 + block[20] as usize..])
 }
 
 impl<'a> Record<'a> {
@@ -38,26 +32,27 @@ impl<'a> Record<'a> {
         ensures value { viewed result ≡ record_in block.now }
         ensures back { (e : Entry) → viewed result ≡ Some e → block_of e ≡ block.now }
     {
-        if !is_record(block) {
-            return None;
-        }
-        let len = block[20] as usize;
-        Some(Record {
+        is_record(block).then(|| Record {
             number: u32_at(block, 0),
             reads: u64_at(block, 4),
             writes: u64_at(block, 12),
-            body: &block[21..21 + len],
+            body: &block[21..21 + block[20] as usize],
         })
     }
 
-    // Writes the record's block; refuses a body above 232 bytes and a block of another length, and leaves it then.
-    pub fn write(&self, block: &mut [u8]) -> bool
-        ensures answer { result ≡ (length block.old == 256 && nat_le (length (view self.now).body) 232) }
-        ensures after { block.new ≡ (if result then block_of (view self.now) else block.old) }
-        ensures back { result ≡ true → record_in block.new ≡ Some (view self.now) }
+    // Writes the record's block; refuses a block of another length, then a body above 232 bytes, and leaves the block then.
+    pub fn write(&self, block: &mut [u8]) -> Result<(), Misfit>
+        ensures answer { is_ok result ≡ (length block.old == 256 && nat_le (length (view self.now).body) 232) }
+        ensures block_length { IsErrOf result Misfit.BlockLength ↔ (length block.old ≢ 256) }
+        ensures body_length { IsErrOf result Misfit.BodyLength ↔ (length block.old ≡ 256) × (232 < length (view self.now).body) }
+        ensures after { block.new ≡ (if is_ok result then block_of (view self.now) else block.old) }
+        ensures back { IsOk result → record_in block.new ≡ Some (view self.now) }
     {
-        if block.len() != BLOCK || self.body.len() > LONGEST {
-            return false;
+        if block.len() != BLOCK {
+            return Err(Misfit::BlockLength);
+        }
+        if self.body.len() > LONGEST {
+            return Err(Misfit::BodyLength);
         }
         block.fill(0);
         put_u32(block, 0, self.number);
@@ -65,6 +60,6 @@ impl<'a> Record<'a> {
         put_u64(block, 12, self.writes);
         block[20] = self.body.len() as u8;
         block[21..21 + self.body.len()].copy_from_slice(self.body);
-        true
+        Ok(())
     }
 }

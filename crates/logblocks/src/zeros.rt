@@ -6,10 +6,5 @@ ghost use Rattle.logblocks.specs.Blocks.{zeros};
 pub fn all_zero(bytes: &[u8]) -> bool
     ensures { result ≡ zeros bytes.now }
 {
-    for b in bytes {
-        if *b != 0 {
-            return false;
-        }
-    }
-    true
+    bytes.iter().all(|b| *b == 0)
 }

@@ -1,2 +1,1 @@
-pub mod FrontLaws
 pub mod ListedLaws

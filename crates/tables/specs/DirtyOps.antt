@@ -1,12 +1,12 @@
 -- The dirty operations that a volume lists.
-use Rattle.std.specs.Prelude.{◌≡◌, ℕ, ◌≤◌, max, Bool, cond, not, ◌&&◌, List, [], ◌∷◌, ◌++◌, map, length, take, Some, None, fold, filter, Option, MatchOption, nat_le, nat_lt, slice_index_or}
+use Rattle.std.specs.Prelude.{◌≡◌, ℕ, ◌≤◌, max, Bool, cond, not, ◌&&◌, List, [], ◌∷◌, ◌++◌, map, length, Some, None, fold, filter, Option, MatchOption, nat_le, nat_lt, slice_index_or}
 use Rattle.std.specs.List.{ContainsAt as Has, AllByRecursion}
 use Rattle.graph.specs.declared.op.Op.{Op}
 use Rattle.graph.specs.Listing.{writes_inside}
 use Rattle.tables.specs.declared.dirty_ops.DirtyOps.{DirtyOps}
 
 abbrev pub dirty : DirtyOps → List Op
-dirty d = take d.count d.ops
+dirty d = d.ops.items
 
 -- whether one more operation can be listed
 abbrev pub room : List Op → Bool

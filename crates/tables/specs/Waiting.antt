@@ -1,9 +1,9 @@
 -- The blocks that wait to be written to the log, oldest first.
-use Rattle.std.specs.Prelude.{ℕ, Bool, cond, List, [], ◌∷◌, ◌++◌, length, take, nat_lt}
+use Rattle.std.specs.Prelude.{ℕ, Bool, cond, List, [], ◌∷◌, ◌++◌, length, nat_lt}
 use Rattle.tables.specs.declared.waiting.Waiting.{Waiting}
 
 abbrev pub waiting : Waiting → List (List ℕ)
-waiting w = take w.count w.blocks
+waiting w = w.blocks.items
 
 -- whether one more block can wait
 abbrev pub room : List (List ℕ) → Bool

@@ -1,15 +1,11 @@
-// The dirty operations, in the order in which they were listed: the first `count` of the 128 places.
-ghost use Rattle.std.specs.Prelude.{◌≡◌, ◌≤◌, length};
-
+// The dirty operations, in the order in which they were listed: 128 at most.
 mod table;
 mod walks;
 
+use arrayvec::ArrayVec;
 use graph::Op;
 
 #[derive(Drop)]
 pub struct DirtyOps {
-    ops: [Op; 128],
-    count: usize,
-    ghost sized: { length ops ≡ 128 },
-    ghost few: { count ≤ 128 },
+    ops: ArrayVec<Op, 128>,
 }

@@ -2,7 +2,9 @@
 #![tactic(auto)]
 
 mod dirty_ops;
+mod full;
 mod waiting;
 
 pub use dirty_ops::DirtyOps;
+pub use full::Full;
 pub use waiting::Waiting;

@@ -1,8 +1,10 @@
 // What the listed operations are, and how they come and go.
-ghost use Rattle.std.specs.Prelude.{◌≡◌, [], length};
+ghost use Rattle.std.specs.Prelude.{◌≡◌, [], length, is_ok};
 ghost use Rattle.tables.specs.DirtyOps.{dirty, room, pushed, kept, first_number, highest_among, HighestIn};
 
+use crate::Full;
 use crate::dirty_ops::{DirtyOps, walks};
+use arrayvec::ArrayVec;
 use graph::Op;
 
 impl DirtyOps {
@@ -10,14 +12,8 @@ impl DirtyOps {
     pub fn none() -> DirtyOps
         ensures { dirty result ≡ [] }
     {
-        let nothing = Op {
-            number: 0,
-            reads: 0,
-            writes: 0,
-        };
         DirtyOps {
-            ops: [nothing; 128],
-            count: 0,
+            ops: ArrayVec::new(),
         }
     }
 
@@ -25,48 +21,36 @@ impl DirtyOps {
     pub fn list(&self) -> &[Op]
         ensures { result.now ≡ dirty self.now }
     {
-        let n = self.count;
-        &self.ops[0..n]
+        self.ops.as_slice()
     }
 
     // How many operations are listed.
     pub fn len(&self) -> usize
         ensures { result ≡ length (dirty self.now) }
     {
-        self.list().len()
+        self.ops.len()
     }
 
-    // Lists an operation behind the others; false, and it is not listed, where 128 are listed already.
-    pub fn push(&mut self, o: Op) -> bool
-        ensures fits { result ≡ room (dirty self.old) }
+    // Lists an operation behind the others; refuses it, and it is not listed, where 128 are listed already.
+    pub fn push(&mut self, o: Op) -> Result<(), Full>
+        ensures fits { is_ok result ≡ room (dirty self.old) }
         ensures after { dirty self.new ≡ pushed (dirty self.old) o }
     {
-        let n = self.count;
-        if n >= 128 {
-            return false;
-        }
-        self.ops[n] = o;
-        self.count = n + 1;
-        true
+        self.ops.try_push(o).map_err(|_| Full)
     }
 
     // Strikes the operations that write a page of the set; the others stay, in their order.
     pub fn remove(&mut self, set: u64)
         ensures { dirty self.new ≡ kept set (dirty self.old) }
     {
-        let n = self.count;
-        let left = walks::keep(&mut self.ops, n, set);
-        self.count = left;
+        self.ops.retain(|o| !walks::writes_into(*o, set));
     }
 
     // The number of the first listed operation; `next` where none is listed.
     pub fn lowest(&self, next: u32) -> u32
         ensures { result ≡ first_number (dirty self.now) next }
     {
-        if self.count == 0 {
-            return next;
-        }
-        self.ops[0].number
+        self.ops.first().map_or(next, |o| o.number)
     }
 
     // The highest number, at or above `from`, of a listed operation that writes a page of the set.
@@ -74,7 +58,6 @@ impl DirtyOps {
         ensures value { result ≡ highest_among set from (dirty self.now) }
         ensures best { HighestIn set from (dirty self.now) result }
     {
-        let ops = self.list();
-        walks::highest(ops, set, from)
+        walks::highest(self.list(), set, from)
     }
 }

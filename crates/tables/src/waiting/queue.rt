@@ -1,8 +1,12 @@
 // What the waiting blocks are, and how they come and go.
-ghost use Rattle.std.specs.Prelude.{◌≡◌, [], length, drop, nat_lt, slice_index_or};
+ghost use Rattle.std.specs.Prelude.{◌≡◌, [], length, drop, is_ok, slice_get};
+ghost use Rattle.std.specs.Slice.{IsItemAt};
+ghost use Rattle.std.specs.Option.{option_copied};
 ghost use Rattle.tables.specs.Waiting.{waiting, room, pushed};
 
+use crate::Full;
 use crate::waiting::Waiting;
+use arrayvec::ArrayVec;
 
 impl Waiting {
     // No block waits.
@@ -10,8 +14,7 @@ impl Waiting {
         ensures { waiting result ≡ [] }
     {
         Waiting {
-            blocks: [[0; 256]; 16],
-            count: 0,
+            blocks: ArrayVec::new(),
         }
     }
 
@@ -19,50 +22,37 @@ impl Waiting {
     pub fn list(&self) -> &[[u8; 256]]
         ensures { result.now ≡ waiting self.now }
     {
-        let n = self.count;
-        &self.blocks[0..n]
+        self.blocks.as_slice()
     }
 
     // How many blocks wait.
     pub fn len(&self) -> usize
         ensures { result ≡ length (waiting self.now) }
     {
-        self.list().len()
+        self.blocks.len()
     }
 
-    // Puts a block behind those that wait; false, and nothing is put, where sixteen wait already.
-    pub fn push(&mut self, block: &[u8; 256]) -> bool
-        ensures fits { result ≡ room (waiting self.old) }
+    // Puts a block behind those that wait; refuses it, and nothing is put, where sixteen wait already.
+    pub fn push(&mut self, block: &[u8; 256]) -> Result<(), Full>
+        ensures fits { is_ok result ≡ room (waiting self.old) }
         ensures after { waiting self.new ≡ pushed (waiting self.old) block.now }
     {
-        let n = self.count;
-        if n >= 16 {
-            return false;
-        }
-        self.blocks[n] = *block;
-        self.count = n + 1;
-        true
+        self.blocks.try_push(*block).map_err(|_| Full)
     }
 
-    // Copies the i-th waiting block; false, and nothing is copied, where there is none.
-    pub fn copy(&self, i: usize, block: &mut [u8; 256]) -> bool
-        ensures found { result ≡ nat_lt i (length (waiting self.now)) }
-        ensures after { block.new ≡ slice_index_or (waiting self.now) i block.old }
+    // The i-th of the waiting blocks; none where fewer wait.
+    pub fn get(&self, i: usize) -> Option<&[u8; 256]>
+        ensures value { option_copied result ≡ slice_get (waiting self.now) i }
+        ensures item { IsItemAt (waiting self.now) i result }
     {
-        if i >= self.count {
-            return false;
-        }
-        *block = self.blocks[i];
-        true
+        self.blocks.get(i)
     }
 
     // Takes away the first n blocks, or all where fewer wait.
     pub fn drop_front(&mut self, n: usize)
         ensures { waiting self.new ≡ drop n (waiting self.old) }
     {
-        let gone = n.min(self.count);
-        let count = self.count;
-        self.blocks.copy_within(gone..count, 0);
-        self.count = count - gone;
+        let gone = n.min(self.len());
+        drop(self.blocks.drain(..gone));
     }
 }

@@ -2,6 +2,6 @@ use Rattle.std.proofs.Common.{rules}
 use Rattle.logblocks.specs.Blocks.{header_of}
 use Rattle.logblocks.proofs.header.write_header.Goals as goal
 
-pub returns : goal.returns
+pub returns-clause-back : goal.returns-clause-back
 unfolding header_of
-returns c = search rules
+returns-clause-back c = search rules

@@ -1,20 +1,17 @@
-use Rattle.std.proofs.Common.{◌<◌, List, length, ap, ◌∙◌, arith}
-use Rattle.std.proofs.lemmas.List.{take_all}
-use Rattle.graph.specs.Ops.{nothing}
+use Rattle.std.proofs.Common.{sym, ◌∙◌, rules, tests}
+use Rattle.std.proofs.lemmas.Iterator.{YieldsList-from_slice, YieldsList-from_map}
+use Rattle.std.proofs.lemmas.Iterator.Consumers.{YieldsList-at, YieldsList-from_filter, max_from_yields_List}
+use Rattle.std.proofs.lemmas.Iterator.Adapters.{option_map_id}
 use Rattle.graph.specs.declared.op.Op.{Op}
-use Rattle.tables.specs.DirtyOps.{highest_among}
-use Rattle.tables.proofs.ListedLaws.{highest_more}
+use Rattle.tables.specs.DirtyOps.{counts, counted}
+use Rattle.tables.proofs.ListedLaws.{highest-from_max}
 use Rattle.tables.proofs.dirty_ops.walks.highest.Goals as goal
-
-pub loop-o-preserved : goal.loop-o-preserved
-loop-o-preserved c =
-    let l : c.loop-o.o-index < length c.args.ops.now = omega arith in
-    let e = highest_more c.args.set c.args.from c.args.ops.now c.loop-o.o-index nothing l in
-    let i = c.loop-o.invariant in
-    let b = c.better-best.ensures in
-    cc
 
 pub returns : goal.returns
 returns c =
-    c.loop-o.invariant
-    ∙ ap (λ (xs : List Op). highest_among c.args.set c.args.from xs) (take_all c.loop-o.o-index c.args.ops.now c.loop-o-test.false)
+    sym (option_map_id c.max.result)
+    ∙ max_from_yields_List c.map.result c.max.result c.max.ensures.ran
+    (YieldsList-from_map _ (λ (o : Op). o.number)
+    (YieldsList-at c.map.ensures.source (YieldsList-from_filter _ (counts c.args.set c.args.from) (YieldsList-at c.filter.ensures.source (YieldsList-from_slice c.args.ops.now cc)) c.filter.ensures.closure (λ x b q k. search (rules, tests))))
+    c.map.ensures.closure (λ x r q k. search rules))
+    ∙ highest-from_max (counted c.args.set c.args.from c.args.ops.now)
