@@ -5,106 +5,76 @@ ghost use Rattle.redo.specs.Situations.{SituationsShown};
 ghost use Rattle.redo.specs.Theorems.{NoGroupsClean, OneGroupFewer, GroupsPart, RedoRecovers, InstalledRecoverable, GroupInstalls, GroupExplains, NoCircle, SomeReady, HistoryFinite, GraphByOperations, RunKeeps, LossKeeps, TrimKeeps};
 
 // Redo recovers: numbers tell what is installed, each operation that runs again has its first effect, and all pages come back.
-pub fn redo_recovers() -> u8
+pub fn redo_recovers()
     ensures { RedoRecovers }
-{
-    0
-}
+{}
 
 // Where every stored page is as the last installed operation left it, the installed operations explain the pages.
-pub fn installed_recoverable() -> u8
+pub fn installed_recoverable()
     ensures { InstalledRecoverable }
-{
-    0
-}
+{}
 
 // A group that has none directly before it can be installed; the other groups and their order stay.
-pub fn group_installs() -> u8
+pub fn group_installs()
     ensures { GroupInstalls }
-{
-    0
-}
+{}
 
 // The install of a group keeps what redo needs, also where the installed operations do no more than explain the stored pages.
-pub fn group_explains() -> u8
+pub fn group_explains()
     ensures { GroupExplains }
-{
-    0
-}
+{}
 
 // The install of a group leaves one group fewer.
-pub fn one_group_fewer() -> u8
+pub fn one_group_fewer()
     ensures { OneGroupFewer }
-{
-    0
-}
+{}
 
 // Where there is no group, no page is dirty.
-pub fn no_groups_clean() -> u8
+pub fn no_groups_clean()
     ensures { NoGroupsClean }
-{
-    0
-}
+{}
 
 // The groups part the dirty pages.
-pub fn groups_part() -> u8
+pub fn groups_part()
     ensures { GroupsPart }
-{
-    0
-}
+{}
 
 // The order among groups has no circle.
-pub fn no_circle() -> u8
+pub fn no_circle()
     ensures { NoCircle }
-{
-    0
-}
+{}
 
 // A dirty page means that some group has none directly before it.
-pub fn some_ready() -> u8
+pub fn some_ready()
     ensures { SomeReady }
-{
-    0
-}
+{}
 
 // The dirty operations of a history that ran are finitely many, on the pages that there are.
-pub fn history_finite() -> u8
+pub fn history_finite()
     ensures { HistoryFinite }
-{
-    0
-}
+{}
 
 // The same dirty operations, at whatever places, have the same groups and order.
-pub fn graph_by_operations() -> u8
+pub fn graph_by_operations()
     ensures { GraphByOperations }
-{
-    0
-}
+{}
 
 // One more operation keeps what recovery rests on.
-pub fn run_keeps() -> u8
+pub fn run_keeps()
     ensures { RunKeeps }
-{
-    0
-}
+{}
 
 // The loss of operations at the end that are not installed keeps it.
-pub fn loss_keeps() -> u8
+pub fn loss_keeps()
     ensures { LossKeeps }
-{
-    0
-}
+{}
 
 // Dropping installed operations from the log keeps it.
-pub fn trim_keeps() -> u8
+pub fn trim_keeps()
     ensures { TrimKeeps }
-{
-    0
-}
+{}
 
 // The table of small situations, by computation, and the bench history once page 41 is installed.
-pub fn situations_shown() -> u8
+pub fn situations_shown()
     ensures { SituationsShown }
-{
-    0
-}
+{}
