@@ -1,10 +1,11 @@
 -- Blocks and what they say, both ways; and a block written front to back.
-use Rattle.std.proofs.Common.{◌≡◌, ℕ, zero, suc, ◌+◌, ◌-◌, ◌^◌, ◌<◌, ◌≤◌, true, not, ◌&&◌, eqb, leb, List, [], ◌∷◌, ◌++◌, length, get_or, take, drop, set, replicate, Some, None, codes, Option, sym, refl, ap, ◌∙◌, ap₂, inl, inr, arith}
+use Rattle.std.proofs.Common.{◌≡◌, ℕ, zero, suc, ◌+◌, ◌-◌, ◌^◌, ◌<◌, ◌≤◌, true, not, ◌&&◌, eqb, leb, List, [], ◌∷◌, ◌++◌, length, get_or, take, drop, set, replicate, Some, None, codes, sym, refl, ap, ◌∙◌, ap₂, arith}
 use borrow.Rule.Slice.PartMut.{put_mid}
 use Rattle.std.specs.List.{AllByRecursion}
 use Rattle.std.proofs.ByRecursion.{All-take, All-drop}
 use Rattle.std.proofs.lemmas.List.{append_assoc, length-take, length-drop, length-append, length-replicate, take-append-drop, take_all, take_at, drop_at, drop-drop, drop_more, drop-replicate, get_or_at, set_at}
-use Rattle.std.proofs.lemmas.Bool.{and_parts, and_from, eqb-true, eq-eqb, leb-true, le-leb, cond-true, cond-false, cases_Bool}
+use Rattle.std.proofs.lemmas.Bool.{and_parts, and_from, eqb-true, eq-eqb, leb-true, le-leb, cond-true}
+use Rattle.std.proofs.lemmas.Option.{cond_some}
 use Rattle.sets.specs.Words.{number, bytes_of, part, over}
 use Rattle.sets.proofs.WordLaws.{bytes-length, number-bytes, bytes-number}
 use Rattle.logblocks.specs.Blocks.{Entry, zeros, same, block_of, is_record_block, entry_of, record_in, header_of, is_header_block, header_in}
@@ -77,16 +78,9 @@ record_back bs all is =
         ∙ rejoin 0 4 a bs (drop a bs) (omega arith) refl
 
 pub read_back : (bs : List ℕ) → AllByRecursion (λ b. b < 256) bs → (e : Entry) → record_in bs ≡ Some e → block_of e ≡ bs
-read_back bs all e r = elim (cases_Bool (is_record_block bs)) [
-  | inl is ↦ let same : e ≡ entry_of bs = some_same e (entry_of bs) (sym r ∙ cond-true (is_record_block bs) (Some (entry_of bs)) None is) in ap block_of same ∙ record_back bs all is
-  | inr isnt ↦ absurd (none-some e (sym r ∙ cond-false (is_record_block bs) (Some (entry_of bs)) None isnt))
-]
-  where
-    some_same : (x y : Entry) → ◌≡◌ {A = Option Entry} (Some x) (Some y) → x ≡ y
-    some_same x y h = cc
-
-    none-some : (x : Entry) → ◌≡◌ {A = Option Entry} (Some x) None → ⊥
-    none-some x h = let z : ◌≡◌ {A = ℕ} 0 1 = cc in omega arith
+read_back bs all e r =
+    let two = cond_some (is_record_block bs) (entry_of bs) e r in
+    ap block_of (sym two.1) ∙ record_back bs all two.0
 
 -- a block in its parts, and what it reads as
 module _ (q0 q1 q2 body z : List ℕ) (l0 : length q0 ≡ 4) (l1 : length q1 ≡ 8) (l2 : length q2 ≡ 8) (few : length body ≤ 232) (lz : length z ≡ 235 - length body) (iz : zeros z ≡ true) where
@@ -133,17 +127,10 @@ write-back e hn hr hw hb =
 
 pub header-back : (bs : List ℕ) → AllByRecursion (λ b. b < 256) bs → (n : ℕ) → header_in bs ≡ Some n → header_of n ≡ bs
 unfolding header_of
-header-back bs all n r = elim (cases_Bool (is_header_block bs)) [
-  | inl is ↦ let e : n ≡ number (part 4 4 bs) = some_same n (number (part 4 4 bs)) (sym r ∙ cond-true (is_header_block bs) (Some (number (part 4 4 bs))) None is) in ap header_of e ∙ whole is
-  | inr isnt ↦ absurd (none-some n (sym r ∙ cond-false (is_header_block bs) (Some (number (part 4 4 bs))) None isnt))
-]
+header-back bs all n r =
+    let two = cond_some (is_header_block bs) (number (part 4 4 bs)) n r in
+    ap header_of (sym two.1) ∙ whole two.0
   where
-    some_same : (x y : ℕ) → ◌≡◌ {A = Option ℕ} (Some x) (Some y) → x ≡ y
-    some_same x y h = cc
-
-    none-some : (x : ℕ) → ◌≡◌ {A = Option ℕ} (Some x) None → ⊥
-    none-some x h = let z : ◌≡◌ {A = ℕ} 0 1 = cc in omega arith
-
     go : (m a b k : ℕ) → m ≡ length bs → m ≡ 256 → a ≡ 4 → b ≡ 8 → k ≡ 248 → same (take a bs) (codes "LTR1") ≡ true → zeros (drop b bs) ≡ true
         → codes "LTR1" ++ (bytes_of 4 (number (part a 4 bs)) ++ replicate k 0) ≡ bs
     go m a b k em e6 ea eb ek t z =

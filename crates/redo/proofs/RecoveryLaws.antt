@@ -4,7 +4,7 @@ use mathlib.Core.Path.{fun_ext}
 use Rattle.std.proofs.lemmas.Bool.{both_ways, cases_Bool, cases_lt, cases_eq, and_parts, and_from, and_left, or_left, or_right, or_from, or_cases, leb-true, ltb-true, lt-ltb, le-ltb, le-leb, not_from_false, not-true}
 use Rattle.redo.specs.Histories.{page_count, Page, History, reads, writes, touches, contents_of, effect_on, run, after, image, Ran}
 use Rattle.redo.specs.Prefixes.{uninstalled, Prefix, Untouched, Exposed, Explains, Numbered}
-use Rattle.redo.specs.Recovery.{AtOrAbove, Below, present, missing, redo}
+use Rattle.redo.specs.Recovery.{every, AtOrAbove, Below, present, missing, redo}
 use Rattle.redo.specs.Theorems.{RedoRecovers, InstalledRecoverable}
 use Rattle.redo.proofs.TestLaws.{every-from, every-at, rising-like}
 use Rattle.redo.proofs.HistoryLaws.{writes-from, after-suc, run-written, run-unwritten, image-hit, image-all, image-like, image-still, image-reaches, image-below}
@@ -33,36 +33,34 @@ page-same : (p q : Page) → p.contents ≡ q.contents → p.number ≡ q.number
 page-same p q c n = λ i. record { contents = c i; number = n i }
 
 module _ (h : History) (I : ℕ → Bool) (n : ℕ) (ran : Ran h n) where
+  -- a test of each page that an operation writes
+  pub tested-each : (m : ℕ) (t : ℕ → Bool) → m < n → every page_count (λ p. not (writes h m p) || t p) ≡ true → (p : ℕ) → writes h m p ≡ true → t p ≡ true
+  tested-each m t l e p wr =
+      let small = (ran.well_formed m (writes-from h m p wr) l).on_pages p (and_parts (leb h.first m) ((h.operation m).writes p) wr).1 in
+      elim (or_cases (not (writes h m p)) (t p) (every-at page_count (λ p. not (writes h m p) || t p) p e small)) [
+        | inl out ↦ absurd (both_ways (writes h m p) (not-true (writes h m p) out) wr)
+        | inr is ↦ is
+      ]
+
+  pub each-tested : (m : ℕ) (t : ℕ → Bool) → ((p : ℕ) → writes h m p ≡ true → t p ≡ true) → every page_count (λ p. not (writes h m p) || t p) ≡ true
+  each-tested m t all = every-from page_count (λ p. not (writes h m p) || t p) (λ p l. each p (writes h m p) refl)
+    where
+      each : (p : ℕ) (b : Bool) → writes h m p ≡ b → (not (writes h m p) || t p) ≡ true
+      each p true e = or_right (not (writes h m p)) (t p) (all p e)
+      each p false e = or_left (not (writes h m p)) (t p) (not_from_false (writes h m p) e)
+
   -- the tests say what they test
   pub missing-below : (m : ℕ) (v : ℕ → Page) → m < n → missing h m v ≡ true → Below h m v
-  missing-below m v l e p wr =
-      let small = (ran.well_formed m (writes-from h m p wr) l).on_pages p (and_parts (leb h.first m) ((h.operation m).writes p) wr).1 in
-      elim (or_cases (not (writes h m p)) (ltb (v p).number m) (every-at page_count (λ p. not (writes h m p) || ltb (v p).number m) p e small)) [
-        | inl out ↦ absurd (both_ways (writes h m p) (not-true (writes h m p) out) wr)
-        | inr lt ↦ ltb-true (v p).number m lt
-      ]
+  missing-below m v l e p wr = ltb-true (v p).number m (tested-each m (λ p. ltb (v p).number m) l e p wr)
 
   pub below-missing : (m : ℕ) (v : ℕ → Page) → Below h m v → missing h m v ≡ true
-  below-missing m v all = every-from page_count (λ p. not (writes h m p) || ltb (v p).number m) (λ p l. each p (writes h m p) refl)
-    where
-      each : (p : ℕ) (b : Bool) → writes h m p ≡ b → (not (writes h m p) || ltb (v p).number m) ≡ true
-      each p true e = or_right (not (writes h m p)) (ltb (v p).number m) (lt-ltb (v p).number m (all p e))
-      each p false e = or_left (not (writes h m p)) (ltb (v p).number m) (not_from_false (writes h m p) e)
+  below-missing m v all = each-tested m (λ p. ltb (v p).number m) (λ p wr. lt-ltb (v p).number m (all p wr))
 
   pub present-above : (m : ℕ) (v : ℕ → Page) → m < n → present h m v ≡ true → AtOrAbove h m v
-  present-above m v l e p wr =
-      let small = (ran.well_formed m (writes-from h m p wr) l).on_pages p (and_parts (leb h.first m) ((h.operation m).writes p) wr).1 in
-      elim (or_cases (not (writes h m p)) (leb m (v p).number) (every-at page_count (λ p. not (writes h m p) || leb m (v p).number) p e small)) [
-        | inl out ↦ absurd (both_ways (writes h m p) (not-true (writes h m p) out) wr)
-        | inr le ↦ leb-true m (v p).number le
-      ]
+  present-above m v l e p wr = leb-true m (v p).number (tested-each m (λ p. leb m (v p).number) l e p wr)
 
   pub above-present : (m : ℕ) (v : ℕ → Page) → AtOrAbove h m v → present h m v ≡ true
-  above-present m v all = every-from page_count (λ p. not (writes h m p) || leb m (v p).number) (λ p l. each p (writes h m p) refl)
-    where
-      each : (p : ℕ) (b : Bool) → writes h m p ≡ b → (not (writes h m p) || leb m (v p).number) ≡ true
-      each p true e = or_right (not (writes h m p)) (leb m (v p).number) (le-leb m (v p).number (all p e))
-      each p false e = or_left (not (writes h m p)) (leb m (v p).number) (not_from_false (writes h m p) e)
+  above-present m v all = each-tested m (λ p. leb m (v p).number) (λ p wr. le-leb m (v p).number (all p wr))
 
   -- an operation's pages are never both at or above its number and below it
   pub not_mixed : (m : ℕ) (v : ℕ → Page) → h.first ≤ m → m < n → AtOrAbove h m v → Below h m v → ⊥
