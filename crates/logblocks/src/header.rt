@@ -4,7 +4,7 @@ ghost use Rattle.logblocks.specs.Blocks.{same, is_header_block, header_in, heade
 
 use crate::zeros::all_zero;
 use crate::{BLOCK, Misfit};
-use sets::{put_u32, u32_at};
+use sets::Number;
 
 const MAGIC: [u8; 4] = *b"LTR1";
 
@@ -19,7 +19,7 @@ fn titled(block: &[u8]) -> bool
 fn is_header(block: &[u8]) -> bool
     ensures { result ≡ is_header_block block.now }
 {
-    block.len() == BLOCK && titled(block) && u32_at(block, 4) != 0 && all_zero(&block[8..])
+    block.len() == BLOCK && titled(block) && u32::read_at(block, 4) != 0 && all_zero(&block[8..])
 }
 
 // The first number that a header block names; none where the block is no header.
@@ -27,7 +27,7 @@ pub fn read_header(block: &[u8]) -> Option<u32>
     ensures value { result ≡ header_in block.now }
     ensures back { (n : ℕ) → result ≡ Some n → header_of n ≡ block.now }
 {
-    is_header(block).then_some(u32_at(block, 4))
+    is_header(block).then_some(u32::read_at(block, 4))
 }
 
 // The header block that names a first number.
@@ -36,7 +36,7 @@ pub fn header_block(first: u32) -> [u8; BLOCK]
 {
     let mut block = [0u8; BLOCK];
     block[0..4].copy_from_slice(&MAGIC);
-    put_u32(&mut block, 4, first);
+    first.write_at(&mut block, 4);
     block
 }
 

@@ -5,7 +5,7 @@ ghost use Rattle.logblocks.specs.Views.{view, viewed};
 
 use crate::zeros::all_zero;
 use crate::{BLOCK, Misfit};
-use sets::{put_u32, put_u64, u32_at, u64_at};
+use sets::Number;
 
 #[derive(Clone, Copy, Debug, PartialEq, Eq)]
 pub struct Record<'a> {
@@ -33,9 +33,9 @@ impl<'a> Record<'a> {
         ensures back { (e : Entry) → viewed result ≡ Some e → block_of e ≡ block.now }
     {
         is_record(block).then(|| Record {
-            number: u32_at(block, 0),
-            reads: u64_at(block, 4),
-            writes: u64_at(block, 12),
+            number: u32::read_at(block, 0),
+            reads: u64::read_at(block, 4),
+            writes: u64::read_at(block, 12),
             body: &block[21..21 + block[20] as usize],
         })
     }
@@ -55,9 +55,9 @@ impl<'a> Record<'a> {
             return Err(Misfit::BodyLength);
         }
         block.fill(0);
-        put_u32(block, 0, self.number);
-        put_u64(block, 4, self.reads);
-        put_u64(block, 12, self.writes);
+        self.number.write_at(block, 0);
+        self.reads.write_at(block, 4);
+        self.writes.write_at(block, 12);
         block[20] = self.body.len() as u8;
         block[21..21 + self.body.len()].copy_from_slice(self.body);
         Ok(())

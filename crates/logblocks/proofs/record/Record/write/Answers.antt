@@ -10,9 +10,9 @@ returns c =
     let s = c.args.self.now in
     let n = length s.body.now in
     let m : 21 + n - 21 ≡ n = omega arith in
-    let s3 = c.put_u64-2.new.bytes in
+    let s3 = c.write_at-3.new.bytes in
     let blank : c.fill.new.self ≡ replicate 256 0 = search rules in
     let laid : put_mid 21 (21 + n - 21) (set s3 20 n) c.copy_from_slice.new.self ≡ block_of (view s) =
-    write-record (view s) c.fill.new.self c.put_u32.new.bytes c.put_u64.new.bytes s3 (set s3 20 n) c.copy_from_slice.new.self (21 + n - 21)
-    (omega arith) m c.copy_from_slice.ensures.after blank c.put_u32.ensures c.put_u64.ensures c.put_u64-2.ensures refl in
+    write-record (view s) c.fill.new.self c.write_at.new.bytes c.write_at-2.new.bytes s3 (set s3 20 n) c.copy_from_slice.new.self (21 + n - 21)
+    (omega arith) m c.copy_from_slice.ensures.after blank c.write_at.ensures c.write_at-2.ensures c.write_at-3.ensures refl in
     record { answer = search rules; block_length = search rules; body_length = search rules; after = laid; back = λ _. ap record_in laid ∙ write-back (view s) (search rules) (search rules) (search rules) (omega arith) }
