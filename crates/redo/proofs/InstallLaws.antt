@@ -30,6 +30,25 @@ history-finite h I n ran = record {
   on_pages = λ m p e wr. on_pages h n ran m p (uninstalled-parts h I n m e).1 wr;
 }
 
+-- an arrow stays where those of its operations stay dirty
+arrow-by : (h : History) (n : ℕ) (I J : ℕ → Bool) (a b : ℕ)
+    → ((m : ℕ) → uninstalled h I n m ≡ true → (writes h m a ≡ true) ⊎ (writes h m b ≡ true) → uninstalled h J n m ≡ true)
+    → Arrow (operations h I n) a b → Arrow (operations h J n) a b
+arrow-by h n I J a b stays (inl x) =
+    inl (record { op = x.op; is_dirty = stays x.op x.is_dirty (inl x.writes_a); writes_a = x.writes_a; writes_b = x.writes_b })
+arrow-by h n I J a b stays (inr x) = inr (record {
+  O = x.O;
+  P = x.P;
+  page = x.page;
+  o_dirty = stays x.O x.o_dirty (inl x.writes_a);
+  p_dirty = stays x.P x.p_dirty (inr x.writes_b);
+  earlier = x.earlier;
+  writes_a = x.writes_a;
+  writes_b = x.writes_b;
+  o_reads = x.o_reads;
+  p_writes = x.p_writes;
+})
+
 module _ (h : History) (I : ℕ → Bool) (n : ℕ) (p : ℕ) (G : ℕ → Bool) (ran : Ran h n) (ready : Ready (operations h I n) p) (is-group : IsGroup (operations h I n) p G) where
   abbrev d : Operations
   d = operations h I n
@@ -103,34 +122,13 @@ module _ (h : History) (I : ℕ → Bool) (n : ℕ) (p : ℕ) (G : ℕ → Bool)
       ]))
 
   arrow-keeps : (a b : ℕ) → Arrow d a b → G a ≡ false → Arrow e a b
-  arrow-keeps a b (inl x) out = inl (record { op = x.op; is_dirty = still_dirty x.op a x.is_dirty x.writes_a out; writes_a = x.writes_a; writes_b = x.writes_b })
-  arrow-keeps a b (inr x) out = inr (record {
-    O = x.O;
-    P = x.P;
-    page = x.page;
-    o_dirty = still_dirty x.O a x.o_dirty x.writes_a out;
-    p_dirty = still_dirty x.P b x.p_dirty x.writes_b (leaves a b (inr x) out);
-    earlier = x.earlier;
-    writes_a = x.writes_a;
-    writes_b = x.writes_b;
-    o_reads = x.o_reads;
-    p_writes = x.p_writes;
-  })
+  arrow-keeps a b ar out = arrow-by h n I J a b (λ m dirty wr. elim wr [
+    | inl wa ↦ still_dirty m a dirty wa out
+    | inr wb ↦ still_dirty m b dirty wb (leaves a b ar out)
+  ]) ar
 
   arrow-was : (a b : ℕ) → Arrow e a b → Arrow d a b
-  arrow-was a b (inl x) = inl (record { op = x.op; is_dirty = was-dirty x.op x.is_dirty; writes_a = x.writes_a; writes_b = x.writes_b })
-  arrow-was a b (inr x) = inr (record {
-    O = x.O;
-    P = x.P;
-    page = x.page;
-    o_dirty = was-dirty x.O x.o_dirty;
-    p_dirty = was-dirty x.P x.p_dirty;
-    earlier = x.earlier;
-    writes_a = x.writes_a;
-    writes_b = x.writes_b;
-    o_reads = x.o_reads;
-    p_writes = x.p_writes;
-  })
+  arrow-was a b ar = arrow-by h n J I a b (λ m dirty wr. was-dirty m dirty) ar
 
   arrow-out : (a b : ℕ) → Arrow e a b → G a ≡ false
   arrow-out a b ar = let x = arrow-from e a b ar in was-outside x.0 a x.1 x.2
@@ -233,6 +231,13 @@ module _ (h : History) (I : ℕ → Bool) (n : ℕ) (p : ℕ) (G : ℕ → Bool)
       same true b o = refl
       same false b o = sym o
 
+  -- what is stored at a page of the group, and at another
+  stored-in : (w : ℕ → Page) (q : ℕ) → G q ≡ true → stored_with h n G w q ≡ image h J n q
+  stored-in w q g = cond-true (G q) (after h n q) (w q) g ∙ sym (image-all h J n q (all_in q g))
+
+  stored-out : (w : ℕ → Page) (q : ℕ) → G q ≡ false → stored_with h n G w q ≡ w q
+  stored-out w q out = cond-false (G q) (after h n q) (w q) out
+
   pub keeps : (w : ℕ → Page) → Installed h I n w → Installed h J n (stored_with h n G w)
   keeps w kept = record { were_run = run_at; is_prefix = brings kept.is_prefix; images = λ q. image-at q (G q) refl }
     where
@@ -243,8 +248,8 @@ module _ (h : History) (I : ℕ → Bool) (n : ℕ) (p : ℕ) (G : ℕ → Bool)
       ]
 
       image-at : (q : ℕ) (b : Bool) → G q ≡ b → stored_with h n G w q ≡ image h J n q
-      image-at q true g = cond-true (G q) (after h n q) (w q) g ∙ sym (image-all h J n q (all_in q g))
-      image-at q false out = cond-false (G q) (after h n q) (w q) out ∙ kept.images q ∙ image-like h I J n q (none-new q out)
+      image-at q true g = stored-in w q g
+      image-at q false out = stored-out w q out ∙ kept.images q ∙ image-like h I J n q (none-new q out)
 
   -- a page outside the group that is exposed now was exposed before
   was-exposed : (q : ℕ) → G q ≡ false → Exposed h J n q → Exposed h I n q
@@ -288,16 +293,16 @@ module _ (h : History) (I : ℕ → Bool) (n : ℕ) (p : ℕ) (G : ℕ → Bool)
   explains-still w rec = record { is_prefix = brings rec.is_prefix; explains = λ q ex. contents-at q ex (G q) refl; numbered = λ q. number_at q (G q) refl }
     where
       contents-at : (q : ℕ) → Exposed h J n q → (b : Bool) → G q ≡ b → (stored_with h n G w q).contents ≡ (image h J n q).contents
-      contents-at q ex true g = ap (λ (x : Page). x.contents) (cond-true (G q) (after h n q) (w q) g ∙ sym (image-all h J n q (all_in q g)))
+      contents-at q ex true g = ap (λ (x : Page). x.contents) (stored-in w q g)
       contents-at q ex false out =
-          ap (λ (x : Page). x.contents) (cond-false (G q) (after h n q) (w q) out)
+          ap (λ (x : Page). x.contents) (stored-out w q out)
           ∙ rec.explains q (was-exposed q out ex)
           ∙ ap (λ (x : Page). x.contents) (image-like h I J n q (none-new q out))
 
       number_at : (q : ℕ) (b : Bool) → G q ≡ b → (stored_with h n G w q).number ≡ (image h J n q).number
-      number_at q true g = ap (λ (x : Page). x.number) (cond-true (G q) (after h n q) (w q) g ∙ sym (image-all h J n q (all_in q g)))
+      number_at q true g = ap (λ (x : Page). x.number) (stored-in w q g)
       number_at q false out =
-          ap (λ (x : Page). x.number) (cond-false (G q) (after h n q) (w q) out)
+          ap (λ (x : Page). x.number) (stored-out w q out)
           ∙ rec.numbered q
           ∙ ap (λ (x : Page). x.number) (image-like h I J n q (none-new q out))
 

@@ -1,4 +1,7 @@
 // The dirty operations, in the order in which they were listed: 128 at most.
+ghost use Rattle.std.specs.Prelude.{◌≤◌};
+ghost use Rattle.arrayvec.specs.ArrayVec.{array_vec_len};
+
 mod table;
 mod walks;
 
@@ -8,4 +11,5 @@ use graph::Op;
 #[derive(Drop)]
 pub struct DirtyOps {
     ops: ArrayVec<Op, 128>,
+    ghost few: { array_vec_len ops ≤ 128 },
 }
