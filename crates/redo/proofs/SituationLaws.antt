@@ -1,6 +1,6 @@
 -- The table of situations, by computation.
 use Rattle.std.proofs.Common.{◌≡◌, ℕ, zero, suc, ◌-◌, ◌<◌, Bool, true, false, cond, not, ◌&&◌, ◌||◌, eqb, ltb, leb, List, [], ◌∷◌, ◌++◌, length, get_or, replicate, Some, sym, refl, ap, ◌∙◌, subst, ap₂, inl, inr, arith, lit<}
-use Rattle.std.specs.List.{AllByRecursion}
+use Rattle.std.specs.List.{AllByRecursion, list_all}
 use Rattle.std.proofs.lemmas.Bool.{both_ways, cases_eq, and_parts, and_left, and_right, or_cases, or_left, or_right, eqb-true, eq-eqb, ne_eqb, ltb-true, cond-false, le-ltb}
 use Rattle.redo.specs.Histories.{page_count, reads, writes, touches, contents_of, after, image, GoesByReads, WellFormed, Ran}
 use Rattle.redo.specs.Prefixes.{uninstalled, Prefix, Exposed, Installed}
@@ -18,15 +18,11 @@ use Rattle.sets.specs.Sets.{rising}
 
 -- ---- the steps
 
-every_of : List ℕ → (ℕ → Bool) → Bool
-every_of [] f = true
-every_of (q ∷ qs) f = f q && every_of qs f
-
-every-of_at : (qs : List ℕ) (f : ℕ → Bool) (p : ℕ) → every_of qs f ≡ true → listed qs p ≡ true → f p ≡ true
-unfolding every_of listed
+every-of_at : (qs : List ℕ) (f : ℕ → Bool) (p : ℕ) → list_all f qs ≡ true → listed qs p ≡ true → f p ≡ true
+unfolding listed
 every-of_at [] f p e l = absurd (both_ways false refl l)
 every-of_at (q ∷ qs) f p e l =
-    let u = and_parts (f q) (every_of qs f) e in
+    let u = and_parts (f q) (list_all f qs) e in
     elim (or_cases (eqb p q) (listed qs p) l) [ inl same ↦ rw (eqb-true p q same) u.0 | inr below ↦ every-of_at qs f p u.1 below ]
 
 written : Step → List ℕ
@@ -59,18 +55,13 @@ accepts (fill p b) old = (λ q. replicate 224 b, refl)
 accepts (copy s t) old = (λ q. old s, refl)
 accepts (swap a b) old = (λ q. cond (eqb q a) (old b) (old a), refl)
 
-every-step : List Step → (Step → Bool) → Bool
-every-step [] f = true
-every-step (s ∷ ss) f = f s && every-step ss f
-
-every-step_at : (ss : List Step) (f : Step → Bool) (i : ℕ) (d : Step) → every-step ss f ≡ true → i < length ss → f (get_or ss i d) ≡ true
-unfolding every-step
+every-step_at : (ss : List Step) (f : Step → Bool) (i : ℕ) (d : Step) → list_all f ss ≡ true → i < length ss → f (get_or ss i d) ≡ true
 every-step_at [] f i d e l = absurd (omega arith)
-every-step_at (s ∷ ss) f zero d e l = (and_parts (f s) (every-step ss f) e).0
-every-step_at (s ∷ ss) f (suc i) d e l = every-step_at ss f i d (and_parts (f s) (every-step ss f) e).1 (omega arith)
+every-step_at (s ∷ ss) f zero d e l = (and_parts (f s) (list_all f ss) e).0
+every-step_at (s ∷ ss) f (suc i) d e l = every-step_at ss f i d (and_parts (f s) (list_all f ss) e).1 (omega arith)
 
 on_pages : Step → Bool
-on_pages s = every_of (written s) (λ p. ltb p 64)
+on_pages s = list_all (λ p. ltb p 64) (written s)
 
 well_formed : (s : Step) → on_pages s ≡ true → WellFormed (operation_of s)
 unfolding on_pages
@@ -80,7 +71,7 @@ well_formed s e = record {
   on_pages = λ p wr. ltb-true p 64 (every-of_at (written s) (λ p. ltb p 64) p e (written_listed s p wr));
 }
 
-steps-ran : (ss : List Step) → every-step ss on_pages ≡ true → Ran (history_of ss) (suc (length ss))
+steps-ran : (ss : List Step) → list_all on_pages ss ≡ true → Ran (history_of ss) (suc (length ss))
 steps-ran ss e = record {
   starts_below = λ p. lit< tt;
   well_formed = λ m f l. well_formed (get_or ss (m - 1) (fill 0 0)) (every-step_at ss on_pages (m - 1) (fill 0 0) e (omega arith));
@@ -116,14 +107,14 @@ together-listed (g ∷ gs) p q e = elim (or_cases (listed g p && listed g q) (to
 
 order-within : List ℕ → List (List ℕ × List ℕ) → Bool
 order-within ks [] = true
-order-within ks (x ∷ xs) = (every_of x.0 (listed ks) && every_of x.1 (listed ks)) && order-within ks xs
+order-within ks (x ∷ xs) = (list_all (listed ks) x.0 && list_all (listed ks) x.1) && order-within ks xs
 
 order-listed : (ks : List ℕ) (xs : List (List ℕ × List ℕ)) (p q : ℕ) → order-within ks xs ≡ true → in_order xs p q ≡ true → (listed ks p ≡ true) × (listed ks q ≡ true)
 unfolding in_order order-within
 order-listed ks [] p q w e = absurd (both_ways false refl e)
 order-listed ks (x ∷ xs) p q w e =
-    let inner = and_parts (every_of x.0 (listed ks) && every_of x.1 (listed ks)) (order-within ks xs) w in
-    let both = and_parts (every_of x.0 (listed ks)) (every_of x.1 (listed ks)) inner.0 in
+    let inner = and_parts (list_all (listed ks) x.0 && list_all (listed ks) x.1) (order-within ks xs) w in
+    let both = and_parts (list_all (listed ks) x.0) (list_all (listed ks) x.1) inner.0 in
     elim (or_cases (listed x.0 p && listed x.1 q) (in_order xs p q) e) [
       | inl here ↦ let u = and_parts (listed x.0 p) (listed x.1 q) here in
           (every-of_at x.0 (listed ks) p both.0 u.0, every-of_at x.1 (listed ks) q both.1 u.1)
@@ -151,8 +142,8 @@ pair_shown row ks a b =
 shown : Row → Bool
 shown row =
     let ks = pages-of row.groups in
-    (every-step row.steps (λ s. every_of (written s) (listed ks)) && order-within ks row.order)
-    && every_of ks (λ a. every_of ks (pair_shown row ks a))
+    (list_all (λ s. list_all (listed ks) (written s)) row.steps && order-within ks row.order)
+    && list_all (λ a. list_all (pair_shown row ks a) ks) ks
 
 row_shows : (row : Row) → shown row ≡ true → Shows row
 unfolding shown pair_shown
@@ -167,11 +158,11 @@ row_shows row e = (λ p q. (group-sound p q, group-complete p q), λ p q. (order
     ks : List ℕ
     ks = pages-of row.groups
 
-    parts : ((every-step row.steps (λ s. every_of (written s) (listed ks)) && order-within ks row.order) ≡ true) × (every_of ks (λ a. every_of ks (pair_shown row ks a)) ≡ true)
-    parts = and_parts (every-step row.steps (λ s. every_of (written s) (listed ks)) && order-within ks row.order) (every_of ks (λ a. every_of ks (pair_shown row ks a))) e
+    parts : ((list_all (λ s. list_all (listed ks) (written s)) row.steps && order-within ks row.order) ≡ true) × (list_all (λ a. list_all (pair_shown row ks a) ks) ks ≡ true)
+    parts = and_parts (list_all (λ s. list_all (listed ks) (written s)) row.steps && order-within ks row.order) (list_all (λ a. list_all (pair_shown row ks a) ks) ks) e
 
-    firsts : (every-step row.steps (λ s. every_of (written s) (listed ks)) ≡ true) × (order-within ks row.order ≡ true)
-    firsts = and_parts (every-step row.steps (λ s. every_of (written s) (listed ks))) (order-within ks row.order) parts.0
+    firsts : (list_all (λ s. list_all (listed ks) (written s)) row.steps ≡ true) × (order-within ks row.order ≡ true)
+    firsts = and_parts (list_all (λ s. list_all (listed ks) (written s)) row.steps) (order-within ks row.order) parts.0
 
     few : (m : ℕ) → (graph_of row.steps).dirty m ≡ true → m < suc (length row.steps)
     few m dirty = (uninstalled-parts (history_of row.steps) none n m dirty).1
@@ -182,12 +173,12 @@ row_shows row e = (λ p q. (group-sound p q, group-complete p q), λ p q. (order
         let s = get_or row.steps (m - 1) (fill 0 0) in
         let at = (and_parts (leb 1 m) ((operation_of s).writes p) wr).1 in
         let lt : m - 1 < length row.steps = omega (arith, u.0, u.1) in
-        every-of_at (written s) (listed ks) p (every-step_at row.steps (λ s. every_of (written s) (listed ks)) (m - 1) (fill 0 0) firsts.0 lt) (written_listed s p at)
+        every-of_at (written s) (listed ks) p (every-step_at row.steps (λ s. list_all (listed ks) (written s)) (m - 1) (fill 0 0) firsts.0 lt) (written_listed s p at)
 
     at : (p q : ℕ) → listed ks p ≡ true → listed ks q ≡ true → (together row.groups p q ≡ group-test d n ks p q) × (in_order row.order p q ≡ order-test d n ks p q)
     at p q lp lq =
         let u = and_parts (agree (together row.groups p q) (group-test d n ks p q)) (agree (in_order row.order p q) (order-test d n ks p q))
-        (every-of_at ks (pair_shown row ks p) q (every-of_at ks (λ a. every_of ks (pair_shown row ks a)) p parts.1 lp) lq) in
+        (every-of_at ks (pair_shown row ks p) q (every-of_at ks (λ a. list_all (pair_shown row ks a) ks) p parts.1 lp) lq) in
         (agree_same (together row.groups p q) (group-test d n ks p q) u.0, agree_same (in_order row.order p q) (order-test d n ks p q) u.1)
 
     dirty-in : (p : ℕ) → Dirty d p → listed ks p ≡ true
@@ -207,24 +198,19 @@ row_shows row e = (λ p q. (group-sound p q, group-complete p q), λ p q. (order
         let s = directly_reaches d p q b in
         (at p q (dirty-in p (reach-from d s)) (dirty-in q (reach-to d s))).1 ∙ (order-decides d n ks few inside p q).1 b
 
-every-row : List Row → Bool
-every-row [] = true
-every-row (r ∷ rs) = shown r && every-row rs
-
-rows_show : (rs : List Row) → every-row rs ≡ true → AllByRecursion Shows rs
-unfolding every-row
+rows_show : (rs : List Row) → list_all shown rs ≡ true → AllByRecursion Shows rs
 rows_show [] e = tt
-rows_show (r ∷ rs) e = let u = and_parts (shown r) (every-row rs) e in (row_shows r u.0, rows_show rs u.1)
+rows_show (r ∷ rs) e = let u = and_parts (shown r) (list_all shown rs) e in (row_shows r u.0, rows_show rs u.1)
 
 -- the whole table
-computed : every-row table ≡ true
-unfolding every-row shown pair_shown every-step every_of written pages-of order-within agree together in_order listed via some_of some
+computed : list_all shown table ≡ true
+unfolding shown pair_shown written pages-of order-within agree together in_order listed via some_of some
 computed = refl
 
 -- ---- once page 41 of the bench history is installed
 
-bench-on_pages : every-step bench on_pages ≡ true
-unfolding every-step on_pages every_of written
+bench-on_pages : list_all on_pages bench ≡ true
+unfolding on_pages written
 bench-on_pages = refl
 
 bench-ran : Ran bench_history 4
