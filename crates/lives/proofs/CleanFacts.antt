@@ -1,5 +1,5 @@
 -- A quiet volume can be made clean: a flush of a ready group passes unless the power fails, and each leaves one group fewer.
-use Rattle.std.proofs.Common.{◌≡◌, ℕ, zero, suc, ◌^◌, ◌<◌, Bool, false, cond, leb, List, [], ◌∷◌, get_or, Some, None, fold, filter, Option, sym, refl, ap, ◌∙◌, subst, inl, inr, pow-suc, arith, MatchOption}
+use Rattle.std.proofs.Common.{◌≡◌, ℕ, zero, suc, ◌^◌, ◌<◌, Bool, false, cond, leb, List, [], ◌∷◌, get_or, Some, None, fold, filter, Option, sym, refl, ap, ◌∙◌, subst, inl, inr, pow-suc, arith, MatchOption, Ok}
 use Rattle.std.specs.List.{AllByRecursion}
 use Rattle.std.proofs.ByRecursion.{All-from_get_or}
 use Rattle.std.proofs.lemmas.Bool.{both_ways, cases_Bool, and_left, cond-false, lt-leb, eq-eqb, ne_eqb}
@@ -18,9 +18,7 @@ use Rattle.graph.specs.Ops.{nothing}
 use Rattle.graph.specs.Listing.{writes_inside}
 use Rattle.graph.proofs.ListLaws.{listed-dirty}
 use Rattle.tables.specs.DirtyOps.{counts, higher, highest_among, numbers}
-use Rattle.volume.specs.declared.status.Status.{Status}
-use Rattle.volume.specs.declared.status.Status.TheVariants.{Well}
-use Rattle.volume.specs.Statuses.{halted_by}
+use Rattle.volume.specs.Statuses.{halted_by, Status}
 use Rattle.volume.specs.Volumes.{Volume, Told}
 use Rattle.volume.specs.Flushing.{first_waiting, flush_check, GroupInstalled, FlushedWell, Flushed}
 use Rattle.lives.specs.Books.{Book, next_of, next_logged, history_of}
@@ -47,7 +45,7 @@ highest_of_none : (g a : ℕ) (ops : List Op) → filter (counts g a) ops ≡ []
 highest_of_none g a ops e = ap (λ (xs : List Op). fold higher None (numbers xs)) e
 
 module _ (k : Meaning) (b : Book) (v : Volume) (I : ℕ → Bool) (t : ℕ) (booked : Booked k b) (kept : Kept k b I t (ends_of v)) (upheld : Upheld k b I t v)
-    (well : v.status ≡ Well) (logged : next_logged b ≡ next_of b) where
+    (well : v.status ≡ Ok tt) (logged : next_logged b ≡ next_of b) where
   none-counts : (g : ℕ) → filter (counts g (first_waiting v)) v.dirty ≡ []
   none-counts g = kept-none (counts g (first_waiting v)) v.dirty (All-from_get_or (λ o. counts g (first_waiting v) o ≡ false) v.dirty nothing (λ i l.
       let m = (get_or v.dirty i nothing).number in

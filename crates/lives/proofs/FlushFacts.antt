@@ -1,5 +1,5 @@
 -- A flush: the book and the volume keep together, whether or not the install dies.
-use Rattle.std.proofs.Common.{◌≡◌, ℕ, zero, suc, ◌<◌, ◌≤◌, Bool, true, false, cond, not, ◌&&◌, eqb, ltb, leb, List, [], ◌∷◌, length, get_or, Some, None, filter, Option, sym, refl, ap, ◌∙◌, subst, inl, inr, arith, MatchOption}
+use Rattle.std.proofs.Common.{◌≡◌, ℕ, zero, suc, ◌<◌, ◌≤◌, Bool, true, false, cond, not, ◌&&◌, eqb, ltb, leb, List, [], ◌∷◌, length, get_or, Some, None, filter, Option, sym, refl, ap, ◌∙◌, subst, inl, inr, arith, MatchOption, Err, Ok}
 use mathlib.Core.Path.{fun_ext}
 use Rattle.std.specs.List.{ContainsAt as Has, AllByRecursion}
 use Rattle.std.proofs.lemmas.Bool.{both_ways, cases_lt, and_parts, and_from, or_cases, or_left, not-false, cond-true, cond-false, eqb-true, eqb-false, le-leb, ltb-true, ltb-false}
@@ -26,9 +26,7 @@ use Rattle.graph.proofs.ListLaws.{listed-graph, listed-install, dirty-among}
 use Rattle.tables.specs.DirtyOps.{kept as kept_ops, counts, counted, highest_among, numbers}
 use Rattle.tables.proofs.ListedLaws.{highest_is}
 use Rattle.volume.specs.Working.{in_row, taken}
-use Rattle.volume.specs.declared.status.Status.{Status}
-use Rattle.volume.specs.declared.status.Status.TheVariants.{Well, Halted}
-use Rattle.volume.specs.Statuses.{halted_by, halting}
+use Rattle.volume.specs.Statuses.{halted_by, halting, Status}
 use Rattle.volume.specs.Volumes.{Volume, Told}
 use Rattle.volume.specs.Flushing.{first_waiting, wait_fault, flush_check, with_store, GroupInstalled, FlushedWell, Flushed}
 use Rattle.volume.specs.Surviving.{page_of, stored_pages}
@@ -221,8 +219,8 @@ module _ (k : Meaning) (b : Book) (v : Volume) (I : ℕ → Bool) (t : ℕ) (boo
       );
     }
 
-    module _ (well : v.status ≡ Well) where
-      halts : (plan : ℕ → List ℕ) (s : Store) (x : ℕ) → (with_store s plan group (Some (report (PowerLost x))) v).status ≡ Well → ⊥
+    module _ (well : v.status ≡ Ok tt) where
+      halts : (plan : ℕ → List ℕ) (s : Store) (x : ℕ) → (with_store s plan group (Some (report (PowerLost x))) v).status ≡ Ok tt → ⊥
       halts plan s x z = well-halted (PowerLost x) (sym z ∙ ap (λ (q : Status). halting q (Some (report (PowerLost x)))) well)
 
       ended : (plan : ℕ → List ℕ) (e : Ending) → Keeps k b (up (with_store (end_store e group (in_row v.images) v.store) plan group (end_fault e (v.plan group)) v))
@@ -298,18 +296,18 @@ flush-keeps_all k b v v' p group o c keeps = go v.status refl c
     same : v' ≡ v → Keeps k b (up v')
     same e = subst (λ (x : Volume). Keeps k b (up x)) (sym e) keeps
 
-    checks : v.status ≡ Well → (before : ℕ) → Told v.dirty p (group, before) → (x : Option Report) → flush_check v p group before ≡ x
+    checks : v.status ≡ Ok tt → (before : ℕ) → Told v.dirty p (group, before) → (x : Option Report) → flush_check v p group before ≡ x
         → MatchOption x (GroupInstalled v group o v') (λ r. (o ≡ Some r) × (v' ≡ v)) → Keeps k b (up v')
     checks well before told None ok c =
         let u = unhindered v p group before ok in
         installed-keeps k b v keeps.I keeps.t keeps.booked keeps.kept (keeps.upheld well) p group before told u.some-group u.none_before u.none-waits well o v' c
     checks well before told (Some r) ok c = same c.1
 
-    pages : v.status ≡ Well → (x : Bool) → cond x ((o ≡ Some (report (NoSuchPage p))) × (v' ≡ v)) (FlushedWell v p group o v') → Keeps k b (up v')
+    pages : v.status ≡ Ok tt → (x : Bool) → cond x ((o ≡ Some (report (NoSuchPage p))) × (v' ≡ v)) (FlushedWell v p group o v') → Keeps k b (up v')
     pages well true c = same c.1
     pages well false c = checks well c.before c.told (flush_check v p group c.before) refl c.call
 
     go : (h : Status) → v.status ≡ h
         → MatchOption (halted_by h) (cond (leb 64 p) ((o ≡ Some (report (NoSuchPage p))) × (v' ≡ v)) (FlushedWell v p group o v')) (λ r. (o ≡ Some r) × (v' ≡ v)) → Keeps k b (up v')
-    go Well well c = pages well (leb 64 p) c
-    go (Halted f) halted c = same c.1
+    go (Ok u) well c = pages well (leb 64 p) c
+    go (Err f) halted c = same c.1

@@ -1,5 +1,5 @@
 -- A force: the book and the volume keep together, whichever write dies.
-use Rattle.std.proofs.Common.{◌≡◌, ℕ, suc, ◌+◌, ◌-◌, ◌<◌, ◌≤◌, Bool, true, false, cond, eqb, List, [], ◌∷◌, length, get_or, set, Some, None, Option, sym, refl, ap, ◌∙◌, subst, inl, inr, arith, MatchOption}
+use Rattle.std.proofs.Common.{◌≡◌, ℕ, suc, ◌+◌, ◌-◌, ◌<◌, ◌≤◌, Bool, true, false, cond, eqb, List, [], ◌∷◌, length, get_or, set, Some, None, Option, sym, refl, ap, ◌∙◌, subst, inl, inr, arith, MatchOption, Err, Ok}
 use Rattle.std.proofs.lemmas.List.{length-set, get_or-set_same, get_or-set_other}
 use Rattle.std.proofs.lemmas.Bool.{both_ways, cases_eq, cases_lt, lt-leb, lt-ltb, eq-eqb, ne_eqb}
 use Rattle.sets.specs.Sets.{first as first_of}
@@ -13,9 +13,7 @@ use Rattle.media.proofs.PlanLaws.{passed}
 use Rattle.kinds.specs.Kinds.{Meaning, Lawful}
 use Rattle.volume.specs.Working.{number_of}
 use Rattle.volume.specs.LogReading.{place_of, record_block}
-use Rattle.volume.specs.declared.status.Status.{Status}
-use Rattle.volume.specs.declared.status.Status.TheVariants.{Well, Halted}
-use Rattle.volume.specs.Statuses.{halted_by, fault_of, halting}
+use Rattle.volume.specs.Statuses.{halted_by, fault_of, halting, Status}
 use Rattle.volume.specs.Volumes.{Volume}
 use Rattle.volume.specs.Forcing.{Logged, with_log, ForcedWell, Forced}
 use Rattle.volume.specs.Forcing.Logged.{all, dies, goes}
@@ -162,7 +160,7 @@ booked-block k law b booked i low high =
 -- ---- the whole
 
 module _ (k : Meaning) (law : Lawful k) (b : Book) (v : Volume) (I : ℕ → Bool) (t : ℕ) (booked : Booked k b) (kept : Kept k b I t (ends_of v)) (upheld : Upheld k b I t v)
-    (well : v.status ≡ Well) where
+    (well : v.status ≡ Ok tt) where
   good : BlocksGood (block_for k b) (next_logged b) (next_of b)
   good i low high = let x = booked-block k law b booked i (omega arith) high in (x.long, x.number)
 
@@ -235,7 +233,7 @@ module _ (k : Meaning) (law : Lawful k) (b : Book) (v : Volume) (I : ℕ → Boo
           not_short = kept.not_short;
           sized = kept.sized;
         };
-        upheld = λ z. absurd (well-halted (fault_of r) (sym z ∙ ap (λ (q : Status). halting q (Some r)) well ∙ ap (λ j. cond (eqb j 4) (Halted (fault_of r)) Well) (ap (λ (y : Report). y.number) e)));
+        upheld = λ z. absurd (well-halted (fault_of r) (sym z ∙ ap (λ (q : Status). halting q (Some r)) well ∙ ap (λ j. cond (eqb j 4) (Err (fault_of r)) (Ok tt)) (ap (λ (y : Report). y.number) e)));
       }
     where
       at_most : (c : Bool) → cond c 1 0 ≤ 1
@@ -262,9 +260,9 @@ pub force-keeps_all : (k : Meaning) → Lawful k → (b : Book) (v v' : Volume) 
 force-keeps_all k law b v v' o c keeps = go v.status refl c
   where
     go : (h : Status) → v.status ≡ h → (c : MatchOption (halted_by h) (ForcedWell v o v') (λ r. (o ≡ Some r) × (v' ≡ v))) → Keeps k (fed b (force (answered (v.next - 1) o) (fate_by v v' o (halted_by h) c))) (up v')
-    go Well well c =
+    go (Ok u) well c =
         subst (λ (x : Volume). Keeps k (fed b (force (answered (v.next - 1) o) (fate_in c.logged))) (up x)) (sym c.after)
         (forced-well k law b v keeps.I keeps.t keeps.booked keeps.kept (keeps.upheld well) well (v.next - 1) c.logged)
-    go (Halted f) halted c =
+    go (Err f) halted c =
         subst (λ (x : Option Report). Keeps k (fed b (force (answered (v.next - 1) x) Lives)) (up v')) (sym c.0)
         (subst (λ (x : Volume). Keeps k b (up x)) (sym c.1) keeps)

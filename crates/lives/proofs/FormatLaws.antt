@@ -1,5 +1,5 @@
 -- An accepted format: the book is empty and nothing is installed.
-use Rattle.std.proofs.Common.{◌≡◌, ℕ, zero, suc, ◌+◌, ◌-◌, ◌*◌, ◌<◌, ◌≤◌, Bool, true, false, cond, not, eqb, ltb, leb, ◌⊎◌, List, [], ◌∷◌, ◌++◌, map, length, get_or, take, drop, set, replicate, Some, None, Option, sym, refl, ap, ◌∙◌, subst, inl, inr, arith, MatchOption}
+use Rattle.std.proofs.Common.{◌≡◌, ℕ, zero, suc, ◌+◌, ◌-◌, ◌*◌, ◌<◌, ◌≤◌, Bool, true, false, cond, not, eqb, ltb, leb, ◌⊎◌, List, [], ◌∷◌, ◌++◌, map, length, get_or, take, drop, set, replicate, Some, None, Option, sym, refl, ap, ◌∙◌, subst, inl, inr, arith, MatchOption, Err, Ok}
 use Rattle.std.specs.List.{AllByRecursion}
 use Rattle.std.proofs.lemmas.List.{length-set, get_or-set_same, get_or-set_other, length-replicate, take-replicate, drop-replicate, replicate-append-replicate, map-append}
 use Rattle.std.proofs.ByRecursion.{All-append}
@@ -23,8 +23,7 @@ use Rattle.logblocks.specs.Blocks.{header_of}
 use Rattle.redo.specs.Histories.{image}
 use Rattle.redo.proofs.HistoryLaws.{image-still}
 use Rattle.faults.specs.declared.fault.Fault.{Fault}
-use Rattle.volume.specs.declared.status.Status.{Status}
-use Rattle.volume.specs.declared.status.Status.TheVariants.{Well, Halted}
+use Rattle.volume.specs.Statuses.{Status}
 use Rattle.volume.specs.Working.{number_of, taken}
 use Rattle.volume.specs.LogReading.{last_number}
 use Rattle.volume.specs.Volumes.{Ends}
@@ -37,7 +36,7 @@ use Rattle.lives.proofs.Keeping.{Keeps, Kept, Booked, LogOf, block_for}
 use Rattle.lives.proofs.BlockFacts.{header-length}
 
 -- a well volume is not halted
-pub well-halted : (f : Fault) → ◌≡◌ {A = Status} Well (Halted f) → ⊥
+pub well-halted : (f : Fault) → ◌≡◌ {A = Status} (Ok tt) (Err f) → ⊥
 well-halted f h = let z : ◌≡◌ {A = ℕ} 0 1 = cc in omega arith
 
 pub none-some : {A : Type 0} (x : A) → ◌≡◌ {A = Option A} None (Some x) → ⊥

@@ -23,9 +23,7 @@ use Rattle.redo.proofs.CountLaws.{one-group_fewer, no_groups_clean_lem}
 use Rattle.graph.specs.declared.op.Op.{Op}
 use Rattle.graph.specs.Ops.{dirty_ops}
 use Rattle.tables.specs.DirtyOps.{kept as kept_ops}
-use Rattle.volume.specs.declared.status.Status.{Status}
-use Rattle.volume.specs.declared.status.Status.TheVariants.{Well, Halted}
-use Rattle.volume.specs.Statuses.{halted_by, halting}
+use Rattle.volume.specs.Statuses.{halted_by, halting, Status}
 use Rattle.volume.specs.Volumes.{Ends, Volume, Told}
 use Rattle.volume.specs.Forcing.{ForcedWell, trimmed_to, TrimmedWell}
 use Rattle.volume.specs.Flushing.{flush_check, still_dirty, GroupInstalled, FlushedWell, Flushed}
@@ -113,7 +111,7 @@ abbrev Fewer : (ℕ → Page) → Volume → Option Report → ℕ → Type 0
 Fewer w v' None i = (j : ℕ) × (i ≡ suc j) × Tracked w v' j
 Fewer w v' (Some r) i = Tracked w v' i
 
-module _ (k : Meaning) (b : Book) (v v' : Volume) (p group : ℕ) (o : Option Report) (i : ℕ) (keeps : Keeps k b (up v)) (well : v.status ≡ Well) (before : ℕ)
+module _ (k : Meaning) (b : Book) (v v' : Volume) (p group : ℕ) (o : Option Report) (i : ℕ) (keeps : Keeps k b (up v)) (well : v.status ≡ Ok tt) (before : ℕ)
     (told : Told v.dirty p (group, before)) (u : Unhindered v group before) (g : GroupInstalled v group o v') (tr : Tracked (after (history_of k b) (next_of b)) v i) where
   abbrev w : ℕ → Page
   w = after (history_of k b) (next_of b)
@@ -136,7 +134,7 @@ module _ (k : Meaning) (b : Book) (v v' : Volume) (p group : ℕ) (o : Option Re
       let rest : Rest (dirty_in v) (dirty_in v') G = subst (λ (ops : List Op). Rest (dirty_in v) (dirty_ops ops) G) (sym new)
       (rest-lists k b v keeps.I keeps.t keeps.booked keeps.kept upheld p group before told u.some-group u.none_before u.none-waits) in
       let left = rest-count (dirty_in v) (dirty_in v') p G i (λ q. told.group q) rest tr.counted in
-      let well' : v'.status ≡ Well = ap (λ (x : Volume). x.status) g.after ∙ ap₂ halting well e in (
+      let well' : v'.status ≡ Ok tt = ap (λ (x : Volume). x.status) g.after ∙ ap₂ halting well e in (
         left.0,
         one-group_fewer (dirty_in v) (dirty_in v') tr.places p G i left.0 tr.finite
             (p-dirty k b v keeps.I keeps.t keeps.booked keeps.kept upheld p group before told u.some-group u.none_before u.none-waits) (λ q. told.group q) rest tr.counted left.1,
@@ -179,19 +177,19 @@ flushed-fewer k b v v' p group o i keeps c tr = go v.status refl c
     refused r e s = subst (λ (x : Option Report). Fewer (after (history_of k b) (next_of b)) v' x i) (sym e)
         (same-all (after (history_of k b) (next_of b)) v v' i (ap (λ (x : Volume). x.dirty) s) (ap (λ (x : Volume). x.store) s) tr)
 
-    checks : v.status ≡ Well → (before : ℕ) → Told v.dirty p (group, before) → (x : Option Report) → flush_check v p group before ≡ x
+    checks : v.status ≡ Ok tt → (before : ℕ) → Told v.dirty p (group, before) → (x : Option Report) → flush_check v p group before ≡ x
         → MatchOption x (GroupInstalled v group o v') (λ r. (o ≡ Some r) × (v' ≡ v)) → Fewer (after (history_of k b) (next_of b)) v' o i
     checks well before told None ok g = installed-fewer k b v v' p group o i keeps well before told (unhindered v p group before ok) g tr (flush-keeps_all k b v v' p group o c keeps)
     checks well before told (Some r) ok g = refused r g.0 g.1
 
-    pages : v.status ≡ Well → (x : Bool) → cond x ((o ≡ Some (report (NoSuchPage p))) × (v' ≡ v)) (FlushedWell v p group o v') → Fewer (after (history_of k b) (next_of b)) v' o i
+    pages : v.status ≡ Ok tt → (x : Bool) → cond x ((o ≡ Some (report (NoSuchPage p))) × (v' ≡ v)) (FlushedWell v p group o v') → Fewer (after (history_of k b) (next_of b)) v' o i
     pages well true g = refused (report (NoSuchPage p)) g.0 g.1
     pages well false g = checks well g.before g.told (flush_check v p group g.before) refl g.call
 
     go : (h : Status) → v.status ≡ h
         → MatchOption (halted_by h) (cond (leb 64 p) ((o ≡ Some (report (NoSuchPage p))) × (v' ≡ v)) (FlushedWell v p group o v')) (λ r. (o ≡ Some r) × (v' ≡ v)) → Fewer (after (history_of k b) (next_of b)) v' o i
-    go Well well g = pages well (leb 64 p) g
-    go (Halted f) halted g = refused (report f) g.0 g.1
+    go (Ok u) well g = pages well (leb 64 p) g
+    go (Err f) halted g = refused (report f) g.0 g.1
 
 -- ---- one call, and a life that goes on
 
@@ -251,7 +249,7 @@ module _ (k : Meaning) (law : Lawful k) (wf : AllWellFormed k) (recovers : (e : 
         tracks = subst (λ (w : ℕ → Page). Tracks w s' one.0) ih.same one.2;
       }
 
-  pub flushed-clean : (v : Volume) (es : List Event) (s : State) (b : Book) → Keeps k b (up v) → v.status ≡ Well → GoesOn k (up v) es s
+  pub flushed-clean : (v : Volume) (es : List Event) (s : State) (b : Book) → Keeps k b (up v) → v.status ≡ Ok tt → GoesOn k (up v) es s
       → AllByRecursion (λ e. neither_run_nor_mount e ≡ true) es → Tracked (after (history_of k b) (next_of b)) v (flushes_in es) → Clean (history_of k b) (next_of b) s
   flushed-clean v es s b keeps well goes no_run c =
       let t = goes-tracks goes no_run b keeps (flushes_in es) c in

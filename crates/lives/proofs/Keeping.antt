@@ -8,7 +8,6 @@ use Rattle.logblocks.specs.Blocks.{Entry, block_of, header_of}
 use Rattle.redo.specs.Histories.{after, Ran}
 use Rattle.redo.specs.Prefixes.{Installed}
 use Rattle.graph.specs.Listing.{Lists}
-use Rattle.volume.specs.declared.status.Status.TheVariants.{Well}
 use Rattle.volume.specs.Working.{number_of}
 use Rattle.volume.specs.LogReading.{record_block, last_number}
 use Rattle.volume.specs.Volumes.{Ends, Volume}
@@ -84,7 +83,7 @@ pub record Upheld (k : Meaning) (b : Book) (I : ℕ → Bool) (t : ℕ) (v : Vol
 -- what is kept in any state
 abbrev pub KeepsUp : Meaning → Book → (ℕ → Bool) → ℕ → Point → Type 0
 KeepsUp k b I t (down e) = Unit {0}
-KeepsUp k b I t (up v) = v.status ≡ Well → Upheld k b I t v
+KeepsUp k b I t (up v) = v.status ≡ Ok tt → Upheld k b I t v
 
 pub record Keeps (k : Meaning) (b : Book) (s : Point) : Type 0 where
   pub booked : Booked k b

@@ -22,8 +22,7 @@ use Rattle.redo.proofs.KeepLaws.{run-keeps, extended-after, same_operation, new-
 use Rattle.graph.specs.declared.op.Op.{Op}
 use Rattle.graph.specs.Listing.{Lists}
 use Rattle.graph.proofs.ListLaws.{listed-run}
-use Rattle.volume.specs.declared.status.Status.{Status}
-use Rattle.volume.specs.declared.status.Status.TheVariants.{Well, Halted}
+use Rattle.volume.specs.Statuses.{Status}
 use Rattle.volume.specs.Working.{number_of, contents_in, gathered, share_of, stamped, written}
 use Rattle.volume.specs.LogReading.{last_number}
 use Rattle.volume.specs.Performing.{outcome}
@@ -260,15 +259,15 @@ module _ (k : Meaning) (law : Lawful k) (wf : AllWellFormed k) (b : Book) (v : V
 
 -- ---- the checks
 
-unless-none : (s : Status) (y : Option Report) → unless_halted s y ≡ None → (s ≡ Well) × (y ≡ None)
-unless-none (Halted f) y e = absurd (none-some (report f) (sym e))
-unless-none Well y e = (refl, e)
+unless-none : (s : Status) (y : Option Report) → unless_halted s y ≡ None → (s ≡ Ok tt) × (y ≡ None)
+unless-none (Err f) y e = absurd (none-some (report f) (sym e))
+unless-none (Ok x) y e = (refl, e)
 
 pub run-keeps_all : (k : Meaning) → Lawful k → AllWellFormed k → (b : Book) (v : Volume) (body : List ℕ) → Keeps k b (up v)
     → Keeps k (fed b (ran_event body (answered v.next (run_fault k v body)))) (up (after_run k v body))
 run-keeps_all k law wf b v body keeps = admits (admit_fault k v body) refl
   where
-    takes : (r w : ℕ) → k.scope body ≡ Ok (r, w) → v.status ≡ Well → length body ≤ 232 → room_fault v ≡ None → (x : Result (List ℕ) ℕ) → outcome k body r v.images ≡ x
+    takes : (r w : ℕ) → k.scope body ≡ Ok (r, w) → v.status ≡ Ok tt → length body ≤ 232 → room_fault v ≡ None → (x : Result (List ℕ) ℕ) → outcome k body r v.images ≡ x
         → Keeps k (fed b (ran_event body (answered v.next (pages_fault x)))) (up (entered x body r w v))
     takes r w scope well short room (Ok new) out =
         let r1 = check-none (leb 16 (length v.waiting)) (report WaitingFull) _ room in
@@ -278,7 +277,7 @@ run-keeps_all k law wf b v body keeps = admits (admit_fault k v body) refl
         (leb-false 16 (length v.waiting) r1.0) (leb-false 128 (v.next - v.first) r2.0) (eqb-false v.next last_number r3.0) out
     takes r w scope well short room (Err c) out = keeps
 
-    scopes : (s : Result (ℕ × ℕ) ℕ) → k.scope body ≡ s → v.status ≡ Well → length body ≤ 232 → scope_fault v s ≡ None
+    scopes : (s : Result (ℕ × ℕ) ℕ) → k.scope body ≡ s → v.status ≡ Ok tt → length body ≤ 232 → scope_fault v s ≡ None
         → Keeps k (fed b (ran_event body (answered v.next (enter_fault k v body s)))) (up (enter_after k v body s))
     scopes (Ok (r, w)) scope well short room = takes r w scope well short room (outcome k body r v.images) refl
     scopes (Err c) scope well short room = absurd (none-some _ (sym room))

@@ -1,5 +1,5 @@
 -- A trim: the book and the volume keep together, whether or not the header's write dies.
-use Rattle.std.proofs.Common.{◌≡◌, ℕ, ◌<◌, ◌≤◌, Bool, true, false, cond, eqb, List, [], length, get_or, set, Some, None, Option, sym, refl, ap, ◌∙◌, subst, ap₂, inl, inr, arith, MatchOption}
+use Rattle.std.proofs.Common.{◌≡◌, ℕ, ◌<◌, ◌≤◌, Bool, true, false, cond, eqb, List, [], length, get_or, set, Some, None, Option, sym, refl, ap, ◌∙◌, subst, ap₂, inl, inr, arith, MatchOption, Err, Ok}
 use Rattle.std.proofs.lemmas.List.{length-set, get_or-set_same, get_or-set_other}
 use Rattle.std.proofs.lemmas.Bool.{both_ways, cases_Bool, cases_lt}
 use Rattle.faults.specs.declared.fault.Fault.TheVariants.{PowerLost}
@@ -13,9 +13,7 @@ use Rattle.redo.specs.Prefixes.{uninstalled}
 use Rattle.redo.proofs.InstallLaws.{uninstalled-parts, uninstalled-from}
 use Rattle.volume.specs.Working.{number_of}
 use Rattle.volume.specs.LogReading.{place_of}
-use Rattle.volume.specs.declared.status.Status.{Status}
-use Rattle.volume.specs.declared.status.Status.TheVariants.{Well, Halted}
-use Rattle.volume.specs.Statuses.{halted_by, fault_of, halting}
+use Rattle.volume.specs.Statuses.{halted_by, fault_of, halting, Status}
 use Rattle.volume.specs.Volumes.{Volume}
 use Rattle.volume.specs.Forcing.{trimmed_to, with_header, TrimmedWell, Trimmed}
 use Rattle.lives.specs.Books.{Book, next_of, next_logged, history_of}
@@ -40,7 +38,7 @@ log-headed g t t' n m m' log up' e = record {
     other b ne = ap (λ (bs : List (List ℕ)). get_or bs b []) e ∙ get_or-set_other m.blocks 0 b (header_of t') [] ne
 
 module _ (k : Meaning) (b : Book) (v : Volume) (I : ℕ → Bool) (t : ℕ) (booked : Booked k b) (kept : Kept k b I t (ends_of v)) (upheld : Upheld k b I t v)
-    (well : v.status ≡ Well) where
+    (well : v.status ≡ Ok tt) where
   abbrev h : History
   h = history_of k b
 
@@ -134,8 +132,8 @@ module _ (k : Meaning) (b : Book) (v : Volume) (I : ℕ → Bool) (t : ℕ) (boo
       let d = write-dies wrote.0 v.log m 0 (header_of t') r fits (header-length t') upheld.log-live wrote.1 in
       left (lands wrote.0) d.1 d.2
     where
-      halts : r ≡ report (PowerLost 0) → halting v.status (Some r) ≡ Well → ⊥
-      halts e z = well-halted (fault_of r) (sym z ∙ ap (λ (q : Status). halting q (Some r)) well ∙ ap (λ j. cond (eqb j 4) (Halted (fault_of r)) Well) (ap (λ (y : Report). y.number) e))
+      halts : r ≡ report (PowerLost 0) → halting v.status (Some r) ≡ Ok tt → ⊥
+      halts e z = well-halted (fault_of r) (sym z ∙ ap (λ (q : Status). halting q (Some r)) well ∙ ap (λ j. cond (eqb j 4) (Err (fault_of r)) (Ok tt)) (ap (λ (y : Report). y.number) e))
 
       left : (c : Bool) → r ≡ report (PowerLost 0) → m.blocks ≡ cond c (set v.log.blocks 0 (header_of t')) v.log.blocks → Keeps k b (up (with_header m (Some r) v))
       left true e s = record {
@@ -156,11 +154,11 @@ module _ (k : Meaning) (b : Book) (v : Volume) (I : ℕ → Bool) (t : ℕ) (boo
 pub trim-keeps_all : (k : Meaning) (b : Book) (v v' : Volume) (o : Option Report) → Trimmed v o v' → Keeps k b (up v) → Keeps k b (up v')
 trim-keeps_all k b v v' o c keeps = go v.status refl c
   where
-    changes : (x : Bool) → v.status ≡ Well → cond x ((o ≡ None) × (v' ≡ v)) (TrimmedWell v o v') → Keeps k b (up v')
+    changes : (x : Bool) → v.status ≡ Ok tt → cond x ((o ≡ None) × (v' ≡ v)) (TrimmedWell v o v') → Keeps k b (up v')
     changes true well c = subst (λ (x : Volume). Keeps k b (up x)) (sym c.1) keeps
     changes false well c = subst (λ (x : Volume). Keeps k b (up x)) (sym c.after) (trimmed-well k b v keeps.I keeps.t keeps.booked keeps.kept (keeps.upheld well) well o c.log c.wrote)
 
     go : (h : Status) → v.status ≡ h
         → MatchOption (halted_by h) (cond (eqb (trimmed_to v) v.first) ((o ≡ None) × (v' ≡ v)) (TrimmedWell v o v')) (λ r. (o ≡ Some r) × (v' ≡ v)) → Keeps k b (up v')
-    go Well well c = changes (eqb (trimmed_to v) v.first) well c
-    go (Halted f) halted c = subst (λ (x : Volume). Keeps k b (up x)) (sym c.1) keeps
+    go (Ok u) well c = changes (eqb (trimmed_to v) v.first) well c
+    go (Err f) halted c = subst (λ (x : Volume). Keeps k b (up x)) (sym c.1) keeps

@@ -1,5 +1,5 @@
 -- The law: what holds at every point of every life of a volume.
-use Rattle.std.specs.Prelude.{◌≡◌, ℕ, ◌<◌, ◌≤◌, Bool, true, List, length, Some, None, Option}
+use Rattle.std.specs.Prelude.{◌≡◌, ℕ, ◌<◌, ◌≤◌, Bool, true, List, length, Some, None, Option, Ok}
 use Rattle.std.specs.List.{AllByRecursion}
 use Rattle.faults.specs.Faults.{Report}
 use Rattle.kinds.specs.Kinds.{Meaning, Lawful}
@@ -9,7 +9,6 @@ use Rattle.redo.specs.WriteGraph.{Operations, Dirty, Circle, Ready, GroupCount}
 use Rattle.redo.specs.Theorems.{Partition}
 use Rattle.graph.specs.Ops.{dirty_ops}
 use Rattle.graph.specs.Listing.{Lists}
-use Rattle.volume.specs.declared.status.Status.TheVariants.{Well}
 use Rattle.volume.specs.Volumes.{Volume}
 use Rattle.volume.specs.Flushing.{Flushed}
 use Rattle.volume.specs.Mounting.{mounted}
@@ -35,7 +34,7 @@ pub record Working (h : History) (I : ℕ → Bool) (n : ℕ) (v : Volume) : Typ
 -- b. The up volume v that the next mount gives: it is well and shows exactly the pages, contents and numbers, of the operations below n,
 -- which are the logged ones; those that are not installed, and no others, were redone.
 pub record Recovered (h : History) (I : ℕ → Bool) (n : ℕ) (v : Volume) : Type 0 where
-  pub passes : v.status ≡ Well
+  pub passes : v.status ≡ Ok tt
   pub next : v.next ≡ n
   pub shows : (p : ℕ) → working_pages v p ≡ after h n p
   pub redone : Lists v.dirty h I n
@@ -69,7 +68,7 @@ pub record Flushable (k : Meaning) (h : History) (n : ℕ) (v : Volume) : Type 0
 
 -- what is asked of a state that is up and well
 abbrev pub IfWell : (Volume → Type 0) → State → Type 0
-IfWell P (up v) = v.status ≡ Well → P v
+IfWell P (up v) = v.status ≡ Ok tt → P v
 IfWell P (down e) = Unit {0}
 
 -- The law at a point of a life, for its book, in its state.

@@ -1,5 +1,5 @@
 -- An install of a group, passed or refused.
-use Rattle.std.proofs.Common.{◌≡◌, ℕ, ◌<◌, cond, leb, List, Some, None, Option, sym, refl, ap, ◌∙◌, subst, MatchOption}
+use Rattle.std.proofs.Common.{◌≡◌, ℕ, ◌<◌, cond, leb, List, Some, None, Option, sym, refl, ap, ◌∙◌, subst, MatchOption, Ok}
 use Rattle.std.proofs.lemmas.Bool.{lt-leb}
 use Rattle.faults.specs.declared.fault.Fault.TheVariants.{NoSuchPage}
 use Rattle.faults.specs.Faults.{Report, report}
@@ -7,7 +7,6 @@ use Rattle.stores.specs.Stores.{Store, Installed}
 use Rattle.graph.specs.declared.op.Op.{Op}
 use Rattle.tables.specs.DirtyOps.{kept}
 use Rattle.volume.specs.Working.{in_row}
-use Rattle.volume.specs.declared.status.Status.TheVariants.{Well}
 use Rattle.volume.specs.Volumes.{Volume, Told, noted}
 use Rattle.volume.specs.Flushing.{flush_check, GroupInstalled, FlushedWell, Flushed}
 use Rattle.volume.proofs.TrimLaws.{well-call}
@@ -53,7 +52,7 @@ module _ (v v' : Volume) (p group before : ℕ) where
     call = subst (λ x. MatchOption x (GroupInstalled v group o v') (λ f. (o ≡ Some f) × (v' ≡ v))) e done;
   }
 
-pub flush-well : (v v' : Volume) (p group : ℕ) (o : Option Report) → v.status ≡ Well → p < 64 → FlushedWell v p group o v' → Flushed v p group o v'
+pub flush-well : (v v' : Volume) (p group : ℕ) (o : Option Report) → v.status ≡ Ok tt → p < 64 → FlushedWell v p group o v' → Flushed v p group o v'
 flush-well v v' p group o w l x =
     well-call v v' o (cond (leb 64 p) ((o ≡ Some (report (NoSuchPage p))) × (v' ≡ v)) (FlushedWell v p group o v')) w
     (subst (λ t. cond t ((o ≡ Some (report (NoSuchPage p))) × (v' ≡ v)) (FlushedWell v p group o v')) (sym (lt-leb 64 p l)) x)

@@ -11,12 +11,10 @@ use Rattle.tables.specs.declared.dirty_ops.DirtyOps.{DirtyOps}
 use Rattle.tables.specs.DirtyOps.{dirty}
 use Rattle.volume.specs.declared.pages.WorkingPages.{WorkingPages}
 use Rattle.volume.specs.declared.recovered.Recovered.{Recovered}
-use Rattle.volume.specs.declared.status.Status.{Status}
-use Rattle.volume.specs.declared.status.Status.TheVariants.{Halted}
 use Rattle.volume.specs.Working.{image_at, taken}
 use Rattle.volume.specs.LogReading.{last_number, bears, end_of}
 use Rattle.volume.specs.Volumes.{Ends, Volume, or_else}
-use Rattle.volume.specs.Statuses.{fault_of}
+use Rattle.volume.specs.Statuses.{fault_of, Status}
 use Rattle.volume.specs.Formatting.{too_short}
 use Rattle.volume.specs.Mounting.{entry_at, Redone, record_redone, and_then, records_redone, records_fault, ahead_fault, unless_fault, recovered_from, blank_pages, mounted_halted, mounted_by, mounted_at, mounted}
 use Rattle.volume.specs.Recovering.{ends_of, up_by}
@@ -133,7 +131,7 @@ fault-back (NotTreePage p) = refl
 
 -- a refused mount has blank pages and no operations
 pub halted-blank : (e : Ends) (pages : WorkingPages) (ops : DirtyOps) (f : Fault) → pages.images ≡ replicate 16384 0 → dirty ops ≡ []
-    → up_by e (record { pages = pages; dirty = ops; first = 1; next = 1 }) (Halted f) ≡ mounted_halted e (report f)
+    → up_by e (record { pages = pages; dirty = ops; first = 1; next = 1 }) (Err f) ≡ mounted_halted e (report f)
 halted-blank e pages ops f ep eo =
     ap₂ (λ x o. record {
       log = powered e.log;
@@ -144,7 +142,7 @@ halted-blank e pages ops f ep eo =
       dirty = o;
       first = 1;
       next = 1;
-      status = Halted f;
+      status = Err f;
     }) ep eo
     ∙ ap (λ g. record {
       log = powered e.log;
@@ -155,5 +153,5 @@ halted-blank e pages ops f ep eo =
       dirty = [];
       first = 1;
       next = 1;
-      status = Halted g;
+      status = Err g;
     }) (sym (fault-back f))

@@ -12,7 +12,6 @@ use Rattle.redo.specs.Recovery.{every}
 use Rattle.volume.specs.Working.{image_at, number_of, taken, written}
 use Rattle.volume.specs.LogReading.{record_block, end_of, record_fault}
 use Rattle.volume.specs.Performing.{outcome}
-use Rattle.volume.specs.declared.status.Status.TheVariants.{Well, Halted}
 use Rattle.volume.specs.Statuses.{fault_of}
 use Rattle.volume.specs.Volumes.{Ends, Volume, or_else}
 use Rattle.volume.specs.Formatting.{too_short}
@@ -87,7 +86,7 @@ mounted_well e f next s = record {
   dirty = s.ops;
   first = f;
   next = next;
-  status = Well;
+  status = Ok tt;
 }
 
 -- refused it is up and halted with that fault; its pages are blank and it has no operations
@@ -104,7 +103,7 @@ mounted_halted e r = record {
   dirty = [];
   first = 1;
   next = 1;
-  status = Halted (fault_of r);
+  status = Err (fault_of r);
 }
 
 abbrev pub mounted_by : Ends → ℕ → ℕ → Result Redone Report → Volume

@@ -8,7 +8,7 @@ use Rattle.volume.specs.declared.pages.WorkingPages.{WorkingPages}
 use Rattle.media.specs.Media.{Device, powered}
 use Rattle.stores.specs.Stores.{Store, powered as revived}
 use Rattle.volume.specs.declared.recovered.Recovered.{Recovered}
-use Rattle.volume.specs.declared.status.Status.{Status}
+use Rattle.volume.specs.Statuses.{Status}
 use Rattle.volume.specs.Working.{image_at}
 use Rattle.volume.specs.Volumes.{Ends, Volume}
 use Rattle.volume.specs.Mounting.{Redone, mounted_well, mounted_halted}

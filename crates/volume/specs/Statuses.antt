@@ -1,15 +1,16 @@
 -- Whether a volume is well, and what halts it.
-use Rattle.std.specs.Prelude.{cond, Some, None, Option, ◌==◌}
+use Rattle.std.specs.Prelude.{cond, Some, None, Option, ◌==◌, Ok, Err, Result}
 use Rattle.faults.specs.declared.fault.Fault.{Fault}
 use Rattle.faults.specs.declared.fault.Fault.TheVariants.{NoSuchPage, NoSuchBlock, WrongLength, PowerLost, BodyRefused, WaitingFull, LogFull, NumbersSpent, PagesRefused, PageClean, GroupBefore, RecordWaiting, BadHeader, TooShort, BadRecord, SetsDiffer, PartlyInstalled, NumberAhead, RedoRefused, RootFull, NotFilePage, NotTreePage}
-use Rattle.faults.specs.Faults.{Report, report}
-use Rattle.volume.specs.declared.status.Status.{Status}
-use Rattle.volume.specs.declared.status.Status.TheVariants.{Well, Halted}
+use Rattle.faults.specs.Faults.{Report, refusal}
+
+-- a volume is well, or halted by a fault, which answers every call but stop
+abbrev pub Status : Type 0
+Status = Result (Unit {0}) Fault
 
 -- the fault of a halted volume, as it reports it
 abbrev pub halted_by : Status → Option Report
-halted_by Well = None
-halted_by (Halted f) = Some (report f)
+halted_by s = refusal s
 
 -- the fault that reports this: `report` read backwards
 abbrev pub fault_of : Report → Fault
@@ -39,9 +40,9 @@ fault_of r =
 
 -- a call in which the power failed, and no other, halts a well volume with its fault
 abbrev pub lost : Option Report → Status
-lost None = Well
-lost (Some r) = cond (r.number == 4) (Halted (fault_of r)) Well
+lost None = Ok tt
+lost (Some r) = cond (r.number == 4) (Err (fault_of r)) (Ok tt)
 
 abbrev pub halting : Status → Option Report → Status
-halting (Halted f) o = Halted f
-halting Well o = lost o
+halting (Err f) o = Err f
+halting (Ok x) o = lost o

@@ -11,7 +11,6 @@ use Rattle.redo.specs.Prefixes.{Recoverable}
 use Rattle.graph.specs.Listing.{Lists}
 use Rattle.volume.specs.Working.{number_of, contents_in, share_of, taken}
 use Rattle.volume.specs.LogReading.{last_number, record_block, end_of, record_fault}
-use Rattle.volume.specs.declared.status.Status.TheVariants.{Well}
 use Rattle.volume.specs.Volumes.{Ends, Volume}
 use Rattle.volume.specs.Formatting.{too_short}
 use Rattle.volume.specs.Mounting.{mounted}
@@ -51,7 +50,7 @@ pub record LogHolds (k : Meaning) (m : Device) (h : History) (n : ℕ) : Type 0 
 -- what the up volume is that a mount gives: well, with exactly the pages, contents and numbers, that all operations give; those that are
 -- not installed, and no others, were redone and are dirty
 pub record Shown (h : History) (I : ℕ → Bool) (n : ℕ) (v : Volume) : Type 0 where
-  pub well : v.status ≡ Well
+  pub well : v.status ≡ Ok tt
   pub first : v.first ≡ h.first
   pub next : v.next ≡ n
   pub working : (p : ℕ) → working_pages v p ≡ after h n p

@@ -11,9 +11,7 @@ use Rattle.graph.specs.Ops.{dirty_ops, Pages}
 use Rattle.redo.specs.WriteGraph.{Dirty, SameGroup, DirectlyBefore}
 use Rattle.tables.specs.Waiting.{pushed as waits_too}
 use Rattle.tables.specs.DirtyOps.{pushed as dirty_too}
-use Rattle.volume.specs.declared.status.Status.{Status}
-use Rattle.volume.specs.declared.status.Status.TheVariants.{Well, Halted}
-use Rattle.volume.specs.Statuses.{halting}
+use Rattle.volume.specs.Statuses.{halting, Status}
 use Rattle.volume.specs.LogReading.{last_number}
 use Rattle.volume.specs.Working.{written}
 use Rattle.volume.specs.Performing.{outcome}
@@ -44,8 +42,8 @@ or_else None o = o
 
 -- a halted volume answers its fault ahead of all checks
 abbrev pub unless_halted : Status → Option Report → Option Report
-unless_halted Well o = o
-unless_halted (Halted f) o = Some (report f)
+unless_halted (Ok x) o = o
+unless_halted (Err f) o = Some (report f)
 
 -- the volume once it has taken note of how a call ended
 abbrev pub noted : Option Report → Volume → Volume

@@ -34,10 +34,7 @@ fn store_is_short<S: PageStore>(store: &S) -> bool
     ensures { result ≡ is_short (S.PageStore.meaning store.now).state }
 {
     let mut image = [0u8; IMAGE];
-    match store.read(0, &mut image) {
-        Ok(()) => false,
-        Err(_) => true,
-    }
+    store.read(0, &mut image).is_err()
 }
 
 // Whether the log or the store is too short.

@@ -8,7 +8,6 @@ ghost use Rattle.volume.specs.Models.{up_model};
 ghost use Rattle.volume.specs.Volumes.{Told};
 ghost use Rattle.volume.specs.Flushing.{flush_check, GroupInstalled, FlushedWell, Flushed};
 
-use crate::status::Status;
 use crate::up::Up;
 use faults::Fault;
 use kinds::Kind;
@@ -45,13 +44,9 @@ impl<K: Kind, L: Medium, S: PageStore> Up<K, L, S> {
         ensures { GroupInstalled (up_model L.Medium.model S.PageStore.meaning S.PageStore.plan self.old) group (refusal result) (up_model L.Medium.model S.PageStore.meaning S.PageStore.plan self.new) }
     {
         let outcome = self.store.install(group, self.pages.all());
-        match self.settle(outcome) {
-            Ok(()) => {
-                self.dirty.remove(group);
-                Ok(())
-            }
-            Err(fault) => Err(fault),
-        }
+        self.settle(outcome)?;
+        self.dirty.remove(group);
+        Ok(())
     }
 
     // Flushes a page that there is, in a well volume.
@@ -61,22 +56,16 @@ impl<K: Kind, L: Medium, S: PageStore> Up<K, L, S> {
         let ops = self.dirty.list();
         let group = graph::group(ops, page);
         let before = graph::before(ops, page);
-        if let Err(fault) = self.check_flush(page, group, before) {
-            return Err(fault);
-        }
-        match self.install_group(group) {
-            Ok(()) => Ok(size(group)),
-            Err(fault) => Err(fault),
-        }
+        self.check_flush(page, group, before)?;
+        self.install_group(group)?;
+        Ok(size(group))
     }
 
     // Installs the group of a page in one install, and answers how many pages the group has.
     pub fn flush(&mut self, page: u32) -> Result<u32, Fault>
         ensures flushed { (group : ℕ) × (Flushed (up_model L.Medium.model S.PageStore.meaning S.PageStore.plan self.old) page group (refusal result) (up_model L.Medium.model S.PageStore.meaning S.PageStore.plan self.new) × IfOk result (λ n. n ≡ size_of group)) }
     {
-        if let Status::Halted(fault) = self.status {
-            return Err(fault);
-        }
+        self.status?;
         if page >= 64 {
             return Err(Fault::NoSuchPage(page));
         }

@@ -10,7 +10,6 @@ ghost use Rattle.volume.specs.Volumes.{noted};
 ghost use Rattle.volume.specs.Forcing.{Logged, Forced};
 
 use crate::log_reading::record_place;
-use crate::status::Status;
 use crate::up::Up;
 use faults::Fault;
 use kinds::Kind;
@@ -48,8 +47,8 @@ impl<K: Kind, L: Medium, S: PageStore> Up<K, L, S> {
         ensures after { up_model L.Medium.model S.PageStore.meaning S.PageStore.plan self.new ≡ noted (refusal outcome) (up_model L.Medium.model S.PageStore.meaning S.PageStore.plan self.old) }
     {
         match (&mut self.status, outcome) {
-            (Status::Well, Err(Fault::PowerLost(block))) => {
-                self.status = Status::Halted(Fault::PowerLost(block));
+            (Ok(()), Err(Fault::PowerLost(block))) => {
+                self.status = Err(Fault::PowerLost(block));
             }
             _ => {}
         }
@@ -61,9 +60,7 @@ impl<K: Kind, L: Medium, S: PageStore> Up<K, L, S> {
         ensures forced { Forced (up_model L.Medium.model S.PageStore.meaning S.PageStore.plan self.old) (refusal result) (up_model L.Medium.model S.PageStore.meaning S.PageStore.plan self.new) }
         ensures number { IfOk result (λ n. n ≡ self.old.next - 1) }
     {
-        if let Status::Halted(fault) = self.status {
-            return Err(fault);
-        }
+        self.status?;
         let (written, outcome) = write_records(&mut self.log, &self.waiting);
         self.waiting.drop_front(written);
         self.settle(outcome)?;

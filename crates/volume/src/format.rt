@@ -23,9 +23,7 @@ fn blank_log<L: Medium>(log: &mut L) -> Result<(), Fault>
     ensures { Ran (L.Medium.model log.old) blanks (refusal result) (L.Medium.model log.new) }
 {
     for block in 0..LOG_BLOCKS {
-        if let Err(fault) = log.write(block, &[0u8; BLOCK]) {
-            return Err(fault);
-        }
+        log.write(block, &[0u8; BLOCK])?;
     }
     Ok(())
 }
@@ -58,12 +56,8 @@ impl<K: Kind, L: Medium, S: PageStore> Down<K, L, S> {
     {
         self.log.power_on();
         self.store.power_on();
-        if let Err(fault) = blank_log(&mut self.log) {
-            return Err(fault);
-        }
-        if let Err(fault) = blank_store(&mut self.store) {
-            return Err(fault);
-        }
+        blank_log(&mut self.log)?;
+        blank_store(&mut self.store)?;
         self.log.write(0, &header_block(first))
     }
 
@@ -71,9 +65,7 @@ impl<K: Kind, L: Medium, S: PageStore> Down<K, L, S> {
     pub fn format(&mut self, first: u32) -> Result<(), Fault>
         ensures { Formatted first (down_model L.Medium.model S.PageStore.meaning S.PageStore.plan self.old) (refusal result) (down_model L.Medium.model S.PageStore.meaning S.PageStore.plan self.new) }
     {
-        if let Err(fault) = self.check_format(first) {
-            return Err(fault);
-        }
+        self.check_format(first)?;
         self.begin(first)
     }
 }

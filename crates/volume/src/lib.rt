@@ -16,11 +16,9 @@ mod recover;
 mod recovered;
 mod redoing;
 mod run;
-mod status;
 mod trim;
 mod up;
 mod working;
 
 pub use down::Down;
-pub use status::Status;
 pub use up::Up;

@@ -8,7 +8,6 @@ ghost use Rattle.volume.specs.Models.{up_model};
 ghost use Rattle.volume.specs.Volumes.{page_fault, filled_with, group_fault, Told};
 
 use crate::down::Down;
-use crate::status::Status;
 use crate::up::Up;
 use faults::Fault;
 use kinds::Kind;
@@ -21,9 +20,7 @@ impl<K: Kind, L: Medium, S: PageStore> Up<K, L, S> {
         ensures answer { refusal result ≡ page_fault (up_model L.Medium.model S.PageStore.meaning S.PageStore.plan self.now) page buffer.old }
         ensures buffer { buffer.new ≡ filled_with (refusal result) (image_at self.now.pages.images page) buffer.old }
     {
-        if let Status::Halted(fault) = self.status {
-            return Err(fault);
-        }
+        self.status?;
         if page >= 64 {
             return Err(Fault::NoSuchPage(page));
         }
@@ -39,9 +36,7 @@ impl<K: Kind, L: Medium, S: PageStore> Up<K, L, S> {
         ensures answer { refusal result ≡ group_fault (up_model L.Medium.model S.PageStore.meaning S.PageStore.plan self.now) page }
         ensures told { IfOk result (Told (dirty_of self.now.dirty) page) }
     {
-        if let Status::Halted(fault) = self.status {
-            return Err(fault);
-        }
+        self.status?;
         if page >= 64 {
             return Err(Fault::NoSuchPage(page));
         }

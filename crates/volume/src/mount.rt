@@ -13,7 +13,6 @@ use crate::ends::power_on;
 use crate::pages::WorkingPages;
 use crate::recover::recover;
 use crate::recovered::Recovered;
-use crate::status::Status;
 use crate::up::Up;
 use faults::Fault;
 use kinds::Kind;
@@ -22,11 +21,11 @@ use stores::PageStore;
 use tables::{DirtyOps, Waiting};
 
 // What an up volume has in memory, and its status: of a refused mount blank pages and no operations.
-fn settled(found: Result<Recovered, Fault>) -> (Recovered, Status)
+fn settled(found: Result<Recovered, Fault>) -> (Recovered, Result<(), Fault>)
     ensures { (e : Ends) → up_by e result.0 result.1 ≡ up_with e found }
 {
     match found {
-        Ok(recovered) => (recovered, Status::Well),
+        Ok(recovered) => (recovered, Ok(())),
         Err(fault) => {
             let nothing = Recovered {
                 pages: WorkingPages::blank(),
@@ -34,7 +33,7 @@ fn settled(found: Result<Recovered, Fault>) -> (Recovered, Status)
                 first: 1,
                 next: 1,
             };
-            (nothing, Status::Halted(fault))
+            (nothing, Err(fault))
         }
     }
 }
@@ -81,9 +80,6 @@ impl<K: Kind, L: Medium, S: PageStore> Up<K, L, S> {
     pub fn fault(&self) -> Option<Fault>
         ensures { report_of result ≡ halted_by self.now.status }
     {
-        match self.status {
-            Status::Well => None,
-            Status::Halted(fault) => Some(fault),
-        }
+        self.status.err()
     }
 }

@@ -30,13 +30,9 @@ fn perform_with<K: Kind>(
 {
     let mut old = [0u8; FOUR];
     let used = pages.gather(reads, &mut old);
-    match K::effect(body, &old[0..used], new) {
-        Ok(()) => {
-            pages.scatter(writes, number, new);
-            Ok(())
-        }
-        Err(code) => Err(code),
-    }
+    K::effect(body, &old[0..used], new)?;
+    pages.scatter(writes, number, new);
+    Ok(())
 }
 
 // Does an operation whose sets are known; the pages that it writes take the number.

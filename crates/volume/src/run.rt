@@ -8,7 +8,6 @@ ghost use Rattle.volume.specs.Performing.{outcome};
 ghost use Rattle.volume.specs.Volumes.{admit_fault, room_fault, pages_fault, entered, run_fault, after_run};
 
 use crate::perform::perform;
-use crate::status::Status;
 use crate::up::Up;
 use faults::Fault;
 use graph::Op;
@@ -63,9 +62,7 @@ impl<K: Kind, L: Medium, S: PageStore> Up<K, L, S> {
         ensures long { OnOk result (length body.now ≤ 232) }
         ensures left { OnOk result (self.now.next < 4294967295) }
     {
-        if let Status::Halted(fault) = self.status {
-            return Err(fault);
-        }
+        self.status?;
         if body.len() > LONGEST {
             return Err(Fault::WrongLength(body.len()));
         }

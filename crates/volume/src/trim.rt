@@ -4,7 +4,6 @@ ghost use Rattle.faults.specs.Faults.{refusal};
 ghost use Rattle.volume.specs.Models.{up_model};
 ghost use Rattle.volume.specs.Forcing.{trimmed_to, Trimmed};
 
-use crate::status::Status;
 use crate::up::Up;
 use faults::Fault;
 use kinds::Kind;
@@ -33,20 +32,14 @@ impl<K: Kind, L: Medium, S: PageStore> Up<K, L, S> {
         ensures trimmed { Trimmed (up_model L.Medium.model S.PageStore.meaning S.PageStore.plan self.old) (refusal result) (up_model L.Medium.model S.PageStore.meaning S.PageStore.plan self.new) }
         ensures number { IfOk result (λ n. n ≡ self.new.first) }
     {
-        if let Status::Halted(fault) = self.status {
-            return Err(fault);
-        }
+        self.status?;
         let first = self.needed_from();
         if self.starts_at(first) {
             return Ok(first);
         }
         let outcome = self.log.write(0, &header_block(first));
-        match self.settle(outcome) {
-            Ok(()) => {
-                self.first = first;
-                Ok(first)
-            }
-            Err(fault) => Err(fault),
-        }
+        self.settle(outcome)?;
+        self.first = first;
+        Ok(first)
     }
 }

@@ -1,6 +1,6 @@
 // An up volume.
 use crate::pages::WorkingPages;
-use crate::status::Status;
+use faults::Fault;
 use std::marker::PhantomData;
 use tables::{DirtyOps, Waiting};
 
@@ -13,6 +13,7 @@ pub struct Up<K, L, S> {
     pub(crate) dirty: DirtyOps,
     pub(crate) first: u32,
     pub(crate) next: u32,
-    pub(crate) status: Status,
+    // well; or the fault that answers every call but stop: a write died, or a mount was refused
+    pub(crate) status: Result<(), Fault>,
     pub(crate) kind: PhantomData<K>,
 }

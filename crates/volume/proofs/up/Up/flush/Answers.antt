@@ -8,4 +8,4 @@ returns g c =
     let v = up_model {K = g.row.K.Denot} g.L.Medium.model g.S.PageStore.meaning g.S.PageStore.plan c.args.self.now in
     let v' = up_model {K = g.row.K.Denot} g.L.Medium.model g.S.PageStore.meaning g.S.PageStore.plan c.flush_page.new.self in
     let x = c.flush_page.ensures.flushed in
-    record { flushed = (x.0, (flush-well v v' c.args.page x.0 (refusal c.flush_page.result) c.in_default.is c.if-page-ge64.false x.1.0, x.1.1)) }
+    record { flushed = (x.0, (flush-well v v' c.args.page x.0 (refusal c.flush_page.result) c.in_ok-self.was c.if-page-ge64.false x.1.0, x.1.1)) }
