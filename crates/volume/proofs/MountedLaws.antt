@@ -92,9 +92,9 @@ module _ (waits : List (List ℕ)) (x : Recovered) (status : Status) where
     log = m;
     store = s;
     plan = plan;
-    images = image_at x.pages.images;
+    images = image_at x.rebuilt.pages.images;
     waiting = waits;
-    dirty = dirty x.dirty;
+    dirty = dirty x.rebuilt.dirty;
     first = x.first;
     next = x.next;
     status = status;
@@ -131,7 +131,7 @@ fault-back (NotTreePage p) = refl
 
 -- a refused mount has blank pages and no operations
 pub halted-blank : (e : Ends) (pages : WorkingPages) (ops : DirtyOps) (f : Fault) → pages.images ≡ replicate 16384 0 → dirty ops ≡ []
-    → up_by e (record { pages = pages; dirty = ops; first = 1; next = 1 }) (Err f) ≡ mounted_halted e (report f)
+    → up_by e (record { rebuilt = record { pages = pages; dirty = ops }; first = 1; next = 1 }) (Err f) ≡ mounted_halted e (report f)
 halted-blank e pages ops f ep eo =
     ap₂ (λ x o. record {
       log = powered e.log;

@@ -1,6 +1,6 @@
 -- Where reading a log ends.
-use Rattle.std.proofs.Common.{◌≡◌, ℕ, suc, ◌+◌, true, false, cond, not, ◌&&◌, eqb, refl, ap, ◌∙◌, arith}
-use Rattle.std.proofs.lemmas.Bool.{eq-eqb, ne_eqb, cond-false, and_right, and_left, not_from_true}
+use Rattle.std.proofs.Common.{◌≡◌, ℕ, zero, suc, ◌+◌, ◌<◌, ◌≤◌, inl, inr, true, false, cond, not, ◌&&◌, eqb, refl, ap, ◌∙◌, arith}
+use Rattle.std.proofs.lemmas.Bool.{cases_lt, eq-eqb, ne_eqb, cond-false, and_right, and_left, not_from_true}
 use Rattle.media.specs.Media.{Device}
 use Rattle.volume.specs.LogReading.{bears, last_number, end_of}
 
@@ -21,3 +21,11 @@ module _ (m : Device) (n k j : ℕ) (one : j ≡ k + 1) where
 
   pub end_on : (n ≡ 4294967295 → ⊥) → bears m n ≡ true → end_of m n j ≡ end_of m (n + 1) k
   end_on ne e = step ∙ ap (λ t. cond (not t && bears m n) (end_of m (n + 1) k) n) (ne_eqb n last_number ne) ∙ ap (λ t. cond t (end_of m (n + 1) k) n) e
+
+-- at the last number, or with nothing left to read
+pub end_full : (m : Device) (n k : ℕ) → (n < 4294967295 → k ≡ 0) → n ≤ 4294967295 → end_of m n k ≡ n
+end_full m n zero h s = end_none m n
+end_full m n (suc k) h s =
+    let e : suc k ≡ k + 1 = omega arith in
+    let top : n ≡ 4294967295 = elim (cases_lt n 4294967295) [ inl l ↦ absurd (let z : suc k ≡ 0 = h l in omega arith) | inr over ↦ omega arith ] in
+    end_last m n k (suc k) e top

@@ -1,7 +1,7 @@
 -- The steps of a mount: the first of several faults, pages taken one by one.
-use Rattle.std.proofs.Common.{◌≡◌, ℕ, zero, suc, ◌+◌, ◌-◌, ◌<◌, ◌≤◌, Bool, true, false, cond, not, ◌&&◌, eqb, ltb, leb, List, [], ◌∷◌, ◌++◌, length, Some, None, Ok, Err, Option, Result, sym, refl, ap, ◌∙◌, inl, inr, arith}
+use Rattle.std.proofs.Common.{◌≡◌, ℕ, zero, suc, ◌+◌, ◌-◌, ◌<◌, ◌≤◌, Bool, true, false, cond, not, ◌&&◌, eqb, ltb, leb, List, [], ◌∷◌, ◌++◌, length, Some, None, Ok, Err, Option, Result, sym, refl, ap, ◌∙◌, ap₂, inl, inr, arith}
 use Rattle.std.proofs.lemmas.List.{length-append}
-use Rattle.std.proofs.lemmas.Bool.{both_ways, cases_lt, cases_eq, eq-eqb, ne_eqb, lt-ltb, le-ltb, le-leb, lt-leb, cond-true, cond-false, cond_both}
+use Rattle.std.proofs.lemmas.Bool.{cases_lt, cases_eq, eq-eqb, ne_eqb, lt-ltb, le-ltb, le-leb, lt-leb, cond-true, cond-false, cond_both}
 use Rattle.faults.specs.declared.fault.Fault.TheVariants.{NumberAhead, PartlyInstalled}
 use Rattle.faults.specs.Faults.{Report, report}
 use Rattle.media.specs.Media.{Device, check}
@@ -9,9 +9,10 @@ use Rattle.kinds.specs.Kinds.{Meaning}
 use Rattle.logblocks.specs.Blocks.{Entry, entry_of, is_record_block, record_in}
 use Rattle.graph.specs.declared.op.Op.{Op}
 use Rattle.redo.specs.Recovery.{every}
-use Rattle.redo.proofs.TestLaws.{every-from, every-at}
+use Rattle.std.specs.List.{range_with_len, list_all}
+use Rattle.std.proofs.lemmas.List.Folds.{list_all-append}
 use Rattle.volume.specs.Working.{image_at, number_of, taken, replaced, written}
-use Rattle.volume.specs.LogReading.{last_number, bears, end_of}
+use Rattle.volume.specs.LogReading.{last_number, bears, end_of, record_block, record_fault}
 use Rattle.volume.specs.Volumes.{Ends, Volume, or_else}
 use Rattle.volume.specs.Performing.{outcome}
 use Rattle.volume.specs.Mounting.{first_fault, is_installed, is_missing, entry_at, Redone, redone_by, redo_uninstalled, record_redone, and_then, records_redone, records_fault, ahead_fault, unless_fault, recovered_from, mounted_halted, mounted_by}
@@ -82,20 +83,26 @@ module _ (images : ℕ → List ℕ) where
 
 -- ---- a test of every page
 
-module _ (f : ℕ → Bool) where
-  pub every-none : every 0 f ≡ true
-  unfolding every
-  every-none = refl
+range-more : (a n : ℕ) → range_with_len a (suc n) ≡ range_with_len a n ++ (a + n) ∷ []
+range-more a zero = let e : a ≡ a + 0 = omega arith in ap (λ x. x ∷ []) e
+range-more a (suc n) =
+    let e : a + 1 + n ≡ a + suc n = omega arith in
+    ap (λ xs. a ∷ xs) (range-more (a + 1) n ∙ ap (λ x. range_with_len (a + 1) n ++ x ∷ []) e)
 
-  pub every_more : (n : ℕ) → every n f ≡ true → f n ≡ true → every (n + 1) f ≡ true
-  every_more n h e = every-from (n + 1) f (λ k l. elim (cases_eq k n) [ inl same ↦ ap f same ∙ e | inr other ↦ every-at n f k h (omega arith) ])
-
-  pub every-not : (k n : ℕ) → k < n → f k ≡ false → every n f ≡ false
-  every-not k n l e = go (every n f) refl
-    where
-      go : (b : Bool) → every n f ≡ b → every n f ≡ false
-      go true h = absurd (both_ways (f k) e (every-at n f k h l))
-      go false h = h
+-- a test of the numbers below n, tried one after another
+pub every-listed : (f : ℕ → Bool) (n : ℕ) → list_all f (range_with_len 0 n) ≡ every n f
+unfolding every
+every-listed f zero = refl
+every-listed f (suc n) =
+    let e : 0 + n ≡ n = omega arith in
+    ap (list_all f) (range-more 0 n) ∙ list_all-append f (range_with_len 0 n) ((0 + n) ∷ [])
+    ∙ ap₂ (λ x k. x && (f k && true)) (every-listed f n) e ∙ turned (every n f) (f n)
+  where
+    turned : (x y : Bool) → (x && (y && true)) ≡ (y && x)
+    turned true true = refl
+    turned true false = refl
+    turned false true = refl
+    turned false false = refl
 
 -- ---- one record
 
@@ -108,6 +115,17 @@ entry_read e block h = go (is_record_block block) h
 
 pub not-installed : (k : Meaning) (n : ℕ) (e : Entry) (s : Redone) → is_installed e n s.images ≡ false → redo_uninstalled k n e s ≡ record_redone k n e s
 not-installed k n e s h = sym (cond-false (is_installed e n s.images) (Ok s) (redo_uninstalled k n e s) h)
+
+-- what becomes of a record says nothing of the number that its block bears
+pub redone-numbered : (n : ℕ) (e : Entry) (x : Result (List ℕ) ℕ) (s : Redone)
+    → redone_by n (record { number = n; reads = e.reads; writes = e.writes; body = e.body }) x s ≡ redone_by n e x s
+redone-numbered n e (Ok new) s = refl
+redone-numbered n e (Err c) s = refl
+
+pub uninstalled-numbered : (k : Meaning) (n : ℕ) (e : Entry) (s : Redone)
+    → redo_uninstalled k n (record { number = n; reads = e.reads; writes = e.writes; body = e.body }) s ≡ redo_uninstalled k n e s
+uninstalled-numbered k n e s =
+    ap (λ y. cond (is_missing e n s.images) y (Err (report (PartlyInstalled n)))) (redone-numbered n e (outcome k e.body e.reads s.images) s)
 
 -- ---- all records
 
@@ -135,19 +153,54 @@ redo-adds k n e s t h = go (is_installed e n s.images) (is_missing e n s.images)
     go false true (Err c) h = absurd (let z : ◌≡◌ {A = ℕ} 0 1 = cc in omega arith)
     go false false o h = absurd (let z : ◌≡◌ {A = ℕ} 0 1 = cc in omega arith)
 
+-- where a count from f up to next stands once it is done
+pub counted : (f n next : ℕ) → f ≤ n → next ≤ n → (f ≤ next → n ≤ next) → (next ≤ f → n ≡ f) → n - f ≡ next - f
+counted f n next from done to none = elim (cases_lt f next) [ inl l ↦ let e = to (omega arith) in omega arith | inr over ↦ let e = none over in omega arith ]
+
+-- the checks of the records from number f on
+module _ (k : Meaning) (m : Device) (f : ℕ) where
+  abbrev check_at : ℕ → Option Report
+  check_at i = record_fault k (f + i) (record_block m (f + i))
+
+  pub records-none : (n : ℕ) → n - f ≡ 0 → None ≡ records_fault k m f (n - f)
+  records-none n z = no_fault_yet check_at ∙ ap (first_fault check_at) (sym z)
+
+  pub records-on : (n : ℕ) → f ≤ n → None ≡ records_fault k m f (n - f) → None ≡ record_fault k n (record_block m n) → None ≡ records_fault k m f (n + 1 - f)
+  records-on n l h e =
+      let at : n ≡ f + (n - f) = omega arith in
+      let more : n - f + 1 ≡ n + 1 - f = omega arith in
+      fault-none check_at (n - f) h (e ∙ ap (λ j. record_fault k j (record_block m j)) at) ∙ ap (first_fault check_at) more
+
+  pub records-cut : (n next : ℕ) → f ≤ n → n < next → (r : Report) → None ≡ records_fault k m f (n - f) → Some r ≡ record_fault k n (record_block m n)
+      → Some r ≡ records_fault k m f (next - f)
+  records-cut n next l below r h e =
+      let at : n ≡ f + (n - f) = omega arith in
+      fault-here check_at (n - f) (next - f) r (omega arith) h (e ∙ ap (λ j. record_fault k j (record_block m j)) at)
+
+  pub records-at : (n next : ℕ) → f ≤ n → n < next → None ≡ records_fault k m f (next - f) → record_fault k n (record_block m n) ≡ None
+  records-at n next l below h =
+      let at : n ≡ f + (n - f) = omega arith in
+      ap (λ j. record_fault k j (record_block m j)) at ∙ fault-none_at check_at (next - f) (n - f) h (omega arith)
+
 module _ (k : Meaning) (m : Device) (f : ℕ) (s : Redone) where
-  pub redo-none : Ok s ≡ records_redone k m f 0 s
+  none-redone : Ok s ≡ records_redone k m f 0 s
   unfolding records_redone
-  redo-none = refl
+  none-redone = refl
+
+  pub redo-none : (n : ℕ) → n - f ≡ 0 → Ok s ≡ records_redone k m f (n - f) s
+  redo-none n z = none-redone ∙ ap (λ i. records_redone k m f i s) (sym z)
 
   next-is : (i j : ℕ) → j ≡ i + 1 → records_redone k m f j s ≡ and_then (records_redone k m f i s) (record_redone k (f + i) (entry_at m (f + i)))
   unfolding records_redone
   next-is i j e = let one : j ≡ suc i = omega arith in ap (λ n. records_redone k m f n s) one
 
   -- one record more
-  pub redo-more : (i : ℕ) (t : Redone) (r : Result Redone Report) → Ok t ≡ records_redone k m f i s → r ≡ record_redone k (f + i) (entry_at m (f + i)) t
-      → r ≡ records_redone k m f (i + 1) s
-  redo-more i t r h e = e ∙ sym (next-is i (i + 1) refl ∙ ap (λ x. and_then x (record_redone k (f + i) (entry_at m (f + i)))) (sym h))
+  pub redo-more : (n : ℕ) → f ≤ n → (t : Redone) (r : Result Redone Report) → Ok t ≡ records_redone k m f (n - f) s → r ≡ record_redone k n (entry_at m n) t
+      → r ≡ records_redone k m f (n + 1 - f) s
+  redo-more n l t r h e =
+      let at : n ≡ f + (n - f) = omega arith in
+      e ∙ ap (λ j. record_redone k j (entry_at m j) t) at
+      ∙ sym (next-is (n - f) (n + 1 - f) (omega arith) ∙ ap (λ x. and_then x (record_redone k (f + (n - f)) (entry_at m (f + (n - f))))) (sym h))
 
   -- a refusal stays
   refused-stays : (n j : ℕ) (r : Report) → Err r ≡ records_redone k m f n s → Err r ≡ records_redone k m f (n + j) s
@@ -155,11 +208,11 @@ module _ (k : Meaning) (m : Device) (f : ℕ) (s : Redone) where
   refused-stays n (suc j) r h =
       sym (next-is (n + j) (n + suc j) (omega arith) ∙ ap (λ x. and_then x (record_redone k (f + (n + j)) (entry_at m (f + (n + j))))) (sym (refused-stays n j r h)))
 
-  pub redo-refused : (i n : ℕ) (t : Redone) (r : Report) → i < n → Ok t ≡ records_redone k m f i s → Err r ≡ record_redone k (f + i) (entry_at m (f + i)) t
-      → Err r ≡ records_redone k m f n s
-  redo-refused i n t r l h e =
-      let all : i + 1 + (n - (i + 1)) ≡ n = omega arith in
-      refused-stays (i + 1) (n - (i + 1)) r (redo-more i t (Err r) h e) ∙ ap (λ j. records_redone k m f j s) all
+  pub redo-refused : (n next : ℕ) → f ≤ n → n < next → (t : Redone) (r : Report) → Ok t ≡ records_redone k m f (n - f) s → Err r ≡ record_redone k n (entry_at m n) t
+      → Err r ≡ records_redone k m f (next - f) s
+  redo-refused n next l below t r h e =
+      let all : n + 1 - f + (next - (n + 1)) ≡ next - f = omega arith in
+      refused-stays (n + 1 - f) (next - (n + 1)) r (redo-more n l t (Err r) h e) ∙ ap (λ j. records_redone k m f j s) all
 
 -- ---- the whole recovery
 

@@ -2,11 +2,10 @@
 use Rattle.std.specs.Prelude.{ℕ, List, [], Some, None, Ok, Err, Option, Result}
 use Rattle.faults.specs.declared.fault.Fault.{Fault}
 use Rattle.faults.specs.Faults.{Report, report}
-use Rattle.tables.specs.declared.dirty_ops.DirtyOps.{DirtyOps}
 use Rattle.tables.specs.DirtyOps.{dirty}
-use Rattle.volume.specs.declared.pages.WorkingPages.{WorkingPages}
 use Rattle.media.specs.Media.{Device, powered}
 use Rattle.stores.specs.Stores.{Store, powered as revived}
+use Rattle.volume.specs.declared.recovered.Rebuilt.{Rebuilt}
 use Rattle.volume.specs.declared.recovered.Recovered.{Recovered}
 use Rattle.volume.specs.Statuses.{Status}
 use Rattle.volume.specs.Working.{image_at}
@@ -14,8 +13,8 @@ use Rattle.volume.specs.Volumes.{Ends, Volume}
 use Rattle.volume.specs.Mounting.{Redone, mounted_well, mounted_halted}
 
 -- the pages and the operations redone, as they are in memory
-abbrev pub redone_in : WorkingPages → DirtyOps → Redone
-redone_in pages ops = record { images = image_at pages.images; ops = dirty ops }
+abbrev pub redone_in : Rebuilt → Redone
+redone_in x = record { images = image_at x.pages.images; ops = dirty x.dirty }
 
 -- what a call comes to that leaves s where it passes
 abbrev pub comes_to : {T : Type 0} → Result T Fault → Redone → Result Redone Report
@@ -31,9 +30,9 @@ up_by e x status = record {
   log = powered e.log;
   store = revived e.store;
   plan = e.plan;
-  images = image_at x.pages.images;
+  images = image_at x.rebuilt.pages.images;
   waiting = [];
-  dirty = dirty x.dirty;
+  dirty = dirty x.rebuilt.dirty;
   first = x.first;
   next = x.next;
   status = status;
@@ -41,7 +40,7 @@ up_by e x status = record {
 
 -- the up volume with what a recovery came to
 abbrev pub up_with : Ends → Result Recovered Fault → Volume
-up_with e (Ok x) = mounted_well e x.first x.next (redone_in x.pages x.dirty)
+up_with e (Ok x) = mounted_well e x.first x.next (redone_in x.rebuilt)
 up_with e (Err f) = mounted_halted e (report f)
 
 -- the report of a fault, if there is one

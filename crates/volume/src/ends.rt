@@ -1,14 +1,17 @@
 // The two ends at a mount: powered on, long enough or not, the first number, the stored images.
-ghost use Rattle.std.specs.Prelude.{◌≡◌, ℕ, ◌<◌, ◌≤◌, false};
-ghost use Rattle.faults.specs.Faults.{refusal};
-ghost use Rattle.media.specs.Media.{block_count, block_at, powered};
+ghost use Rattle.std.specs.Prelude.{◌≡◌, ℕ, ◌<◌, None, IfOk, nat_lt};
+ghost use Rattle.faults.specs.declared.fault.Fault.TheVariants.{TooShort};
+ghost use Rattle.faults.specs.Faults.{refusal, report};
+ghost use Rattle.media.specs.Media.{block_count, block_at, powered, check};
 ghost use Rattle.stores.specs.Stores.{is_short, powered as revived};
 ghost use Rattle.logblocks.specs.Blocks.{header_in};
 ghost use Rattle.volume.specs.Working.{image_at, taken};
 ghost use Rattle.volume.specs.Formatting.{too_short};
 ghost use Rattle.volume.specs.Mounting.{ahead_fault};
 
+use crate::log_reader::LogReader;
 use crate::pages::WorkingPages;
+use crate::store_reader::StoreReader;
 use faults::Fault;
 use logblocks::read_header;
 use media::{BLOCK, Medium};
@@ -29,66 +32,84 @@ pub(crate) fn power_on<L: Medium, S: PageStore>(log: &mut L, store: &mut S)
     store.power_on();
 }
 
-// Whether the store is short: only then is the reading of an image refused.
-fn store_is_short<S: PageStore>(store: &S) -> bool
-    ensures { result ≡ is_short (S.PageStore.meaning store.now).state }
+// Both ends, to be read, unless one is too short.
+pub(crate) fn readers<'a, L: Medium, S: PageStore>(
+    log: &'a L,
+    store: &'a S,
+) -> Result<(LogReader<'a, L>, StoreReader<'a, S>), Fault>
+    ensures answer { refusal result ≡ check (too_short (L.Medium.model log.now) (S.PageStore.meaning store.now)) (report TooShort) None }
+    ensures log { IfOk result (λ ends. ends.0.log.now ≡ log.now) }
+    ensures store { IfOk result (λ ends. ends.1.store.now ≡ store.now) }
 {
-    let mut image = [0u8; IMAGE];
-    store.read(0, &mut image).is_err()
+    Ok((LogReader::new(log)?, StoreReader::new(store)?))
 }
 
-// Whether the log or the store is too short.
-pub(crate) fn too_short<L: Medium, S: PageStore>(log: &L, store: &S) -> bool
-    ensures { result ≡ too_short (L.Medium.model log.now) (S.PageStore.meaning store.now) }
-{
-    if log.count() < LOG_BLOCKS {
-        return true;
-    }
-    store_is_short(store)
-}
-
-// The log's first number, if block 0 is a header.
-pub(crate) fn first_number<L: Medium>(log: &L) -> Option<u32>
-    requires there { 129 ≤ block_count (L.Medium.model log.now) }
-    ensures { result ≡ header_in (block_at (L.Medium.model log.now) 0) }
-{
-    let mut block = [0u8; BLOCK];
-    let _ = log.read(0, &mut block);
-    read_header(&block)
-}
-
-// The stored image of a page.
-fn stored_image<S: PageStore>(store: &S, page: u32) -> [u8; IMAGE]
-    requires long { is_short (S.PageStore.meaning store.now).state ≡ false }
-    requires page { page < 64 }
-    ensures { result ≡ (S.PageStore.meaning store.now).image page }
-{
-    let mut image = [0u8; IMAGE];
-    let _ = store.read(page, &mut image);
-    image
-}
-
-// All stored images, as working pages.
-pub(crate) fn stored_pages<S: PageStore>(store: &S) -> WorkingPages
-    requires long { is_short (S.PageStore.meaning store.now).state ≡ false }
-    ensures { (q : ℕ) → image_at result.images q ≡ taken (S.PageStore.meaning store.now).image q }
-{
-    let mut pages = WorkingPages::blank();
-    for page in 0..64u32 {
-        let image = stored_image(store, page);
-        pages.set_image(page, &image);
-    }
-    pages
-}
-
-// No page's number may be at or above the next number.
-pub(crate) fn check_numbers(pages: &WorkingPages, next: u32) -> Result<(), Fault>
-    ensures { refusal result ≡ ahead_fault (image_at pages.now.images) next }
-{
-    for page in 0..64u32 {
-        if pages.number(page) >= next {
-            return Err(Fault::NumberAhead(page));
+impl<'a, L: Medium> LogReader<'a, L> {
+    fn new(log: &'a L) -> Result<LogReader<'a, L>, Fault>
+        ensures answer { refusal result ≡ check (nat_lt (block_count (L.Medium.model log.now)) 129) (report TooShort) None }
+        ensures log { IfOk result (λ reader. reader.log.now ≡ log.now) }
+    {
+        if log.count() < LOG_BLOCKS {
+            return Err(Fault::TooShort);
         }
+        Ok(LogReader { log })
     }
-    Ok(())
+
+    // The log's first number, if block 0 is a header.
+    pub(crate) fn first_number(&self) -> Option<u32>
+        ensures { result ≡ header_in (block_at (L.Medium.model self.now.log.now) 0) }
+    {
+        let mut block = [0u8; BLOCK];
+        let _ = self.log.read(0, &mut block);
+        read_header(&block)
+    }
+}
+
+impl<'a, S: PageStore> StoreReader<'a, S> {
+    // Only of a short store the reading of an image is refused.
+    fn new(store: &'a S) -> Result<StoreReader<'a, S>, Fault>
+        ensures answer { refusal result ≡ check (is_short (S.PageStore.meaning store.now).state) (report TooShort) None }
+        ensures store { IfOk result (λ reader. reader.store.now ≡ store.now) }
+    {
+        let mut image = [0u8; IMAGE];
+        if store.read(0, &mut image).is_err() {
+            return Err(Fault::TooShort);
+        }
+        Ok(StoreReader { store })
+    }
+
+    // The stored image of a page.
+    fn image(&self, page: u32) -> [u8; IMAGE]
+        requires page { page < 64 }
+        ensures { result ≡ (S.PageStore.meaning self.now.store.now).image page }
+    {
+        let mut image = [0u8; IMAGE];
+        let _ = self.store.read(page, &mut image);
+        image
+    }
+
+    // All stored images, as working pages.
+    pub(crate) fn pages(&self) -> WorkingPages
+        ensures { (q : ℕ) → image_at result.images q ≡ taken (S.PageStore.meaning self.now.store.now).image q }
+    {
+        let mut pages = WorkingPages::blank();
+        for page in 0..64u32 {
+            pages.set_image(page, &self.image(page));
+        }
+        pages
+    }
+}
+
+impl WorkingPages {
+    // No page's number may be at or above the next number.
+    pub(crate) fn check_numbers(&self, next: u32) -> Result<(), Fault>
+        ensures { refusal result ≡ ahead_fault (image_at self.now.images) next }
+    {
+        for page in 0..64u32 {
+            if self.number(page) >= next {
+                return Err(Fault::NumberAhead(page));
+            }
+        }
+        Ok(())
+    }
 }

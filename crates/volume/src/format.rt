@@ -7,7 +7,7 @@ ghost use Rattle.volume.specs.Models.{down_model};
 ghost use Rattle.volume.specs.Formatting.{blanks, all_pages, blank_images, format_check, Begun, Formatted};
 
 use crate::down::Down;
-use crate::ends::{LOG_BLOCKS, too_short};
+use crate::ends::{LOG_BLOCKS, readers};
 use crate::pages::WorkingPages;
 use faults::Fault;
 use kinds::Kind;
@@ -44,9 +44,7 @@ impl<K: Kind, L: Medium, S: PageStore> Down<K, L, S> {
         if first == 0 {
             return Err(Fault::BadHeader);
         }
-        if too_short(&self.log, &self.store) {
-            return Err(Fault::TooShort);
-        }
+        let _ = readers(&self.log, &self.store)?;
         Ok(())
     }
 

@@ -1,9 +1,11 @@
 // Reading the log's records.
-ghost use Rattle.std.specs.Prelude.{◌≡◌, ◌≤◌, length};
+ghost use Rattle.std.specs.Prelude.{◌≡◌, ◌-◌};
 ghost use Rattle.faults.specs.Faults.{refusal};
-ghost use Rattle.media.specs.Media.{block_count};
 ghost use Rattle.volume.specs.LogReading.{place_of, record_block, bears, end_of, record_fault};
+ghost use Rattle.volume.specs.Mounting.{records_fault};
 
+use crate::log_reader::LogReader;
+use crate::operation::Operation;
 use faults::Fault;
 use kinds::Kind;
 use logblocks::Record;
@@ -17,58 +19,66 @@ pub(crate) fn record_place(number: u32) -> usize
     1 + (number % 128) as usize
 }
 
-// Reads the block of record n, and says whether it bears the number.
-pub(crate) fn fetch_record<L: Medium>(log: &L, n: u32, block: &mut [u8]) -> bool
-    requires there { 129 ≤ block_count (L.Medium.model log.now) }
-    requires long { length block.old ≡ 256 }
-    ensures block { block.new ≡ record_block (L.Medium.model log.now) n }
-    ensures bears { result ≡ bears (L.Medium.model log.now) n }
-{
-    let _ = log.read(record_place(n), block);
-    u32_at(block, 0) == n
-}
-
-// Whether the log has record n.
-fn has_record<L: Medium>(log: &L, n: u32) -> bool
-    requires there { 129 ≤ block_count (L.Medium.model log.now) }
-    ensures { result ≡ bears (L.Medium.model log.now) n }
-{
-    let mut block = [0u8; BLOCK];
-    fetch_record(log, n, &mut block)
-}
-
-// The number at which the log ends, read from its first number on.
-pub(crate) fn log_end<L: Medium>(log: &L, first: u32) -> u32
-    requires there { 129 ≤ block_count (L.Medium.model log.now) }
-    ensures { result ≡ end_of (L.Medium.model log.now) first 128 }
-{
-    let mut n = first;
-    for _i in 0..128u32 {
-        if n == u32::MAX {
-            return n;
-        }
-        if !has_record(log, n) {
-            return n;
-        }
-        n += 1;
-    }
-    n
-}
-
 // What is wrong with a block that should hold record n.
-pub(crate) fn check_record<K: Kind>(n: u32, block: &[u8]) -> Result<(), Fault>
+fn check_record<K: Kind>(n: u32, block: &[u8]) -> Result<(), Fault>
     ensures { refusal result ≡ record_fault K.Kind.meaning n block.now }
 {
     let Some(record) = Record::parse(block) else {
         return Err(Fault::BadRecord(n, 0));
     };
-    match K::scope(record.body) {
-        Ok((reads, writes)) => {
-            if record.reads == reads && record.writes == writes {
-                return Ok(());
+    let Operation { record: wanted, .. } = Operation::<K>::of(n, record.body).map_err(
+        |code| Fault::BadRecord(n, code),
+    )?;
+    if record.reads == wanted.reads && record.writes == wanted.writes {
+        return Ok(());
+    }
+    Err(Fault::SetsDiffer(n))
+}
+
+impl<'a, L: Medium> LogReader<'a, L> {
+    // The block in which record n lies, if the log has it.
+    pub(crate) fn block(&self, n: u32) -> [u8; BLOCK]
+        ensures { result ≡ record_block (L.Medium.model self.now.log.now) n }
+    {
+        let mut block = [0u8; BLOCK];
+        let _ = self.log.read(record_place(n), &mut block);
+        block
+    }
+
+    // Whether the log has record n.
+    fn has_record(&self, n: u32) -> bool
+        ensures { result ≡ bears (L.Medium.model self.now.log.now) n }
+    {
+        u32_at(&self.block(n), 0) == n
+    }
+
+    // The number at which the log ends, read from its first number on: that of the first of 128 records that it does not have.
+    pub(crate) fn end(&self, first: u32) -> u32
+        ensures { result ≡ end_of (L.Medium.model self.now.log.now) first 128 }
+    {
+        let full = first.saturating_add(128);
+        for n in first..full {
+            if !self.has_record(n) {
+                return n;
             }
-            Err(Fault::SetsDiffer(n))
         }
-        Err(code) => Err(Fault::BadRecord(n, code)),
+        full
+    }
+
+    // What is wrong with record n.
+    fn check<K: Kind>(&self, n: u32) -> Result<(), Fault>
+        ensures { refusal result ≡ record_fault K.Kind.meaning n (record_block (L.Medium.model self.now.log.now) n) }
+    {
+        check_record::<K>(n, &self.block(n))
+    }
+
+    // What is wrong with the first of the records that is at fault.
+    pub(crate) fn check_records<K: Kind>(&self, first: u32, next: u32) -> Result<(), Fault>
+        ensures { refusal result ≡ records_fault K.Kind.meaning (L.Medium.model self.now.log.now) first (next - first) }
+    {
+        for n in first..next {
+            self.check::<K>(n)?;
+        }
+        Ok(())
     }
 }

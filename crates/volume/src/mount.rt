@@ -12,7 +12,7 @@ use crate::down::Down;
 use crate::ends::power_on;
 use crate::pages::WorkingPages;
 use crate::recover::recover;
-use crate::recovered::Recovered;
+use crate::recovered::{Rebuilt, Recovered};
 use crate::up::Up;
 use faults::Fault;
 use kinds::Kind;
@@ -28,8 +28,10 @@ fn settled(found: Result<Recovered, Fault>) -> (Recovered, Result<(), Fault>)
         Ok(recovered) => (recovered, Ok(())),
         Err(fault) => {
             let nothing = Recovered {
-                pages: WorkingPages::blank(),
-                dirty: DirtyOps::none(),
+                rebuilt: Rebuilt {
+                    pages: WorkingPages::blank(),
+                    dirty: DirtyOps::none(),
+                },
                 first: 1,
                 next: 1,
             };
@@ -54,8 +56,7 @@ impl<K: Kind, L: Medium, S: PageStore> Down<K, L, S> {
         power_on(&mut log, &mut store);
         let (recovered, status) = settled(recover::<K, L, S>(&log, &store));
         let Recovered {
-            pages,
-            dirty,
+            rebuilt: Rebuilt { pages, dirty },
             first,
             next,
         } = recovered;

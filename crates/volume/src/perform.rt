@@ -1,53 +1,83 @@
-// An operation done on the working pages.
-ghost use Rattle.std.specs.Prelude.{◌≡◌, ℕ, ◌*◌, length, Ok};
+// An operation made, and done on the working pages.
+ghost use Rattle.std.specs.Prelude.{◌≡◌, ℕ, ◌*◌, ◌≤◌, length, Ok, Err, MatchResult};
 ghost use Rattle.sets.specs.Sets.{size as size_of};
 ghost use Rattle.kinds.specs.Kinds.{answer as answer_of};
+ghost use Rattle.logblocks.specs.Blocks.{block_of};
+ghost use Rattle.logblocks.specs.Views.{view};
 ghost use Rattle.volume.specs.Working.{image_at};
 ghost use Rattle.volume.specs.Performing.{outcome, performed};
 
+use crate::operation::Operation;
 use crate::pages::WorkingPages;
+use graph::Op;
 use kinds::Kind;
+use logblocks::Record;
 use sets::size;
+use std::marker::PhantomData;
 
 // The contents of four pages.
 const FOUR: usize = 896;
 
 const CONTENTS: usize = 224;
 
-// The same with a buffer for the new contents, which is as long as they are.
-fn perform_with<K: Kind>(
-    pages: &mut WorkingPages,
-    body: &[u8],
-    reads: u64,
-    writes: u64,
-    number: u32,
-    new: &mut [u8],
-) -> Result<(), u8>
-    requires scoped { K.Kind.meaning.scope body.now ≡ Ok (reads, writes) }
-    requires long { length new.old ≡ 224 * size_of writes }
-    ensures answer { result ≡ answer_of (outcome K.Kind.meaning body.now reads (image_at pages.old.images)) }
-    ensures images { (q : ℕ) → image_at pages.new.images q ≡ performed (outcome K.Kind.meaning body.now reads (image_at pages.old.images)) writes number (image_at pages.old.images) q }
-{
-    let mut old = [0u8; FOUR];
-    let used = pages.gather(reads, &mut old);
-    K::effect(body, &old[0..used], new)?;
-    pages.scatter(writes, number, new);
-    Ok(())
-}
+impl<'a, K: Kind> Operation<'a, K> {
+    // The operation that a body is, or the code with which the kind refuses it.
+    pub(crate) fn of(number: u32, body: &'a [u8]) -> Result<Operation<'a, K>, u8>
+        ensures { MatchResult result (λ o. (o.record.number ≡ number) × (o.record.body.now ≡ body.now)) (λ c. K.Kind.meaning.scope body.now ≡ Err c) }
+    {
+        let (reads, writes) = K::scope(body)?;
+        Ok(Operation {
+            record: Record {
+                number,
+                reads,
+                writes,
+                body,
+            },
+            kind: PhantomData,
+        })
+    }
 
-// Does an operation whose sets are known; the pages that it writes take the number.
-pub(crate) fn perform<K: Kind>(
-    pages: &mut WorkingPages,
-    body: &[u8],
-    reads: u64,
-    writes: u64,
-    number: u32,
-) -> Result<(), u8>
-    requires scoped { K.Kind.meaning.scope body.now ≡ Ok (reads, writes) }
-    ensures answer { result ≡ answer_of (outcome K.Kind.meaning body.now reads (image_at pages.old.images)) }
-    ensures images { (q : ℕ) → image_at pages.new.images q ≡ performed (outcome K.Kind.meaning body.now reads (image_at pages.old.images)) writes number (image_at pages.old.images) q }
-{
-    let mut new = [0u8; FOUR];
-    let wanted = size(writes) as usize * CONTENTS;
-    perform_with::<K>(pages, body, reads, writes, number, &mut new[0..wanted])
+    // The operation as the table of dirty operations has it.
+    pub(crate) fn op(&self) -> Op
+        ensures { result ≡ record { number = self.now.record.number; reads = self.now.record.reads; writes = self.now.record.writes } }
+    {
+        Op {
+            number: self.record.number,
+            reads: self.record.reads,
+            writes: self.record.writes,
+        }
+    }
+
+    // The block of its record.
+    pub(crate) fn block(&self) -> [u8; 256]
+        requires { length self.now.record.body.now ≤ 232 }
+        ensures { result ≡ block_of (view self.now.record) }
+    {
+        let mut block = [0u8; 256];
+        let _ = self.record.write(&mut block);
+        block
+    }
+
+    // Does the operation, with a buffer for the new contents that is as long as they are.
+    fn perform_with(&self, pages: &mut WorkingPages, new: &mut [u8]) -> Result<(), u8>
+        requires { length new.old ≡ 224 * size_of self.now.record.writes }
+        ensures answer { result ≡ answer_of (outcome K.Kind.meaning self.now.record.body.now self.now.record.reads (image_at pages.old.images)) }
+        ensures images { (q : ℕ) → image_at pages.new.images q ≡ performed (outcome K.Kind.meaning self.now.record.body.now self.now.record.reads (image_at pages.old.images)) self.now.record.writes self.now.record.number (image_at pages.old.images) q }
+    {
+        let mut old = [0u8; FOUR];
+        let used = pages.gather(self.record.reads, &mut old);
+        K::effect(self.record.body, &old[0..used], new)?;
+        pages.scatter(self.record.writes, self.record.number, new);
+        Ok(())
+    }
+
+    // Does the operation; the pages that it writes take its number.
+    pub(crate) fn perform(&self, pages: &mut WorkingPages) -> Result<(), u8>
+        ensures answer { result ≡ answer_of (outcome K.Kind.meaning self.now.record.body.now self.now.record.reads (image_at pages.old.images)) }
+        ensures images { (q : ℕ) → image_at pages.new.images q ≡ performed (outcome K.Kind.meaning self.now.record.body.now self.now.record.reads (image_at pages.old.images)) self.now.record.writes self.now.record.number (image_at pages.old.images) q }
+    {
+        let mut new = [0u8; FOUR];
+        let wanted = size(self.record.writes) as usize * CONTENTS;
+        self.perform_with(pages, &mut new[0..wanted])
+    }
 }

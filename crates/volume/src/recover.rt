@@ -1,14 +1,12 @@
 // Recovery: what a mount reads from the two ends and makes of it.
-ghost use Rattle.std.specs.Prelude.{◌≡◌, ◌≤◌, false, Some};
-ghost use Rattle.media.specs.Media.{block_count};
-ghost use Rattle.stores.specs.Stores.{is_short};
+ghost use Rattle.std.specs.Prelude.{◌≡◌, Some};
 ghost use Rattle.volume.specs.Mounting.{mounted, mounted_at};
 ghost use Rattle.volume.specs.Recovering.{ends_of, up_with};
 
-use crate::ends::{check_numbers, first_number, stored_pages, too_short};
-use crate::log_reading::log_end;
-use crate::recovered::Recovered;
-use crate::redoing::{check_records, redo_records};
+use crate::ends::readers;
+use crate::log_reader::LogReader;
+use crate::recovered::{Rebuilt, Recovered};
+use crate::store_reader::StoreReader;
 use faults::Fault;
 use kinds::Kind;
 use media::Medium;
@@ -17,23 +15,23 @@ use tables::DirtyOps;
 
 // What the ends give where the log's first number is known: the checks, then redo from the stored pages.
 fn recover_from<K: Kind, L: Medium, S: PageStore>(
-    log: &L,
-    store: &S,
+    log: &LogReader<L>,
+    store: &StoreReader<S>,
     first: u32,
 ) -> Result<Recovered, Fault>
-    requires there { 129 ≤ block_count (L.Medium.model log.now) }
-    requires long { is_short (S.PageStore.meaning store.now).state ≡ false }
-    ensures { up_with (ends_of (L.Medium.model log.now) (S.PageStore.meaning store.now) (S.PageStore.plan store.now)) result ≡ mounted_at K.Kind.meaning (ends_of (L.Medium.model log.now) (S.PageStore.meaning store.now) (S.PageStore.plan store.now)) (Some first) }
+    ensures { up_with (ends_of (L.Medium.model log.now.log.now) (S.PageStore.meaning store.now.store.now) (S.PageStore.plan store.now.store.now)) result ≡ mounted_at K.Kind.meaning (ends_of (L.Medium.model log.now.log.now) (S.PageStore.meaning store.now.store.now) (S.PageStore.plan store.now.store.now)) (Some first) }
 {
-    let next = log_end(log, first);
-    check_records::<K, L>(log, first, next)?;
-    let mut pages = stored_pages(store);
-    check_numbers(&pages, next)?;
-    let mut dirty = DirtyOps::none();
-    redo_records::<K, L>(log, first, next, &mut pages, &mut dirty)?;
-    Ok(Recovered {
+    let next = log.end(first);
+    log.check_records::<K>(first, next)?;
+    let pages = store.pages();
+    pages.check_numbers(next)?;
+    let mut rebuilt = Rebuilt {
         pages,
-        dirty,
+        dirty: DirtyOps::none(),
+    };
+    rebuilt.redo_records::<K, L>(log, first, next)?;
+    Ok(Recovered {
+        rebuilt,
         first,
         next,
     })
@@ -46,11 +44,9 @@ pub(crate) fn recover<K: Kind, L: Medium, S: PageStore>(
 ) -> Result<Recovered, Fault>
     ensures { up_with (ends_of (L.Medium.model log.now) (S.PageStore.meaning store.now) (S.PageStore.plan store.now)) result ≡ mounted K.Kind.meaning (ends_of (L.Medium.model log.now) (S.PageStore.meaning store.now) (S.PageStore.plan store.now)) }
 {
-    if too_short(log, store) {
-        return Err(Fault::TooShort);
-    }
-    let Some(first) = first_number(log) else {
+    let (records, images) = readers(log, store)?;
+    let Some(first) = records.first_number() else {
         return Err(Fault::BadHeader);
     };
-    recover_from::<K, L, S>(log, store, first)
+    recover_from::<K, L, S>(&records, &images, first)
 }

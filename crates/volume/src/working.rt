@@ -1,7 +1,8 @@
 // The working pages, held by the volume itself.
-ghost use Rattle.std.specs.Prelude.{◌≡◌, ℕ, ◌+◌, ◌*◌, ◌<◌, ◌≤◌, true, [], ◌++◌, length, take, replicate, if◌then◌else◌};
+ghost use Rattle.std.specs.Prelude.{◌≡◌, ℕ, ◌+◌, ◌*◌, ◌<◌, ◌≤◌, Bool, true, not, ◌||◌, [], ◌++◌, length, take, replicate, if◌then◌else◌};
 ghost use Rattle.sets.specs.Sets.{has, size as size_of};
 ghost use Rattle.sets.specs.Words.{part};
+ghost use Rattle.redo.specs.Recovery.{every};
 ghost use Rattle.volume.specs.Working.{image_at, number_of, contents_in, gathered, stamped, written, replaced};
 
 use crate::pages::{IMAGES, WorkingPages};
@@ -48,6 +49,20 @@ impl WorkingPages {
     {
         let at = page as usize * IMAGE;
         u32_at(&self.images[at..at + IMAGE], 0)
+    }
+
+    // Whether the numbers of a set's pages all pass a test.
+    pub(crate) fn numbers_all<F: Fn(u32) -> bool>(&self, set: u64, test: F) -> bool
+        requires { F.IsAlwaysCallable test }
+        ensures { (t : ℕ → Bool) → ((n : ℕ) (r : Bool) → F.post test n r → r ≡ t n) → result ≡ every 64 (λ p. not (has set p) || t (number_of (image_at self.now.images p))) }
+    {
+        (0..64u32).all(
+            |page|
+                requires page { page < 64 }
+                requires callable { F.IsAlwaysCallable test }
+                ensures { (t : ℕ → Bool) → ((n : ℕ) (r : Bool) → F.post test n r → r ≡ t n) → result ≡ (not (has set page) || t (number_of (image_at self.entry.now.images page))) }
+            { !contains(set, page) || test(self.number(page)) },
+        )
     }
 
     // Replaces the image of a page.

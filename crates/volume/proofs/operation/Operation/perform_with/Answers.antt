@@ -1,0 +1,35 @@
+use Rattle.std.proofs.Common.{length, refl, ap, ◌∙◌}
+use Rattle.kinds.specs.Kinds.{answer, filled}
+use Rattle.volume.specs.Working.{image_at}
+use Rattle.volume.specs.Performing.{outcome}
+use Rattle.std.proofs.lemmas.Result.{err_from_is_err_and}
+use Rattle.volume.proofs.PerformLaws.{reads_few, reply-gathered, done_ok, done-err}
+use Rattle.volume.proofs.operation.Operation.perform_with.Goals as goal
+
+pub gather-used-requires : goal.gather-used-requires
+gather-used-requires g c =
+    record { few = reads_few g.K.Kind.meaning g.met.K.Kind.lawful c.args.self.now.record.body.now c.args.self.now.record.reads c.args.self.now.record.writes c.args.self.now.scoped; long = refl }
+
+pub returns : goal.returns
+returns g c =
+    let k = g.K.Kind.meaning in
+    let images = image_at c.args.pages.now.images in
+    let is = reply-gathered k g.met.K.Kind.lawful c.args.self.now.record.body.now c.args.self.now.record.reads c.args.self.now.record.writes c.args.self.now.scoped images c.gather-used.result c.gather-used.new.old (length c.args.new.now)
+    c.gather-used.ensures.used c.gather-used.auto.old c.gather-used.ensures.front c.requires in
+    let a = c.in_ok-effect.ensures.answer ∙ ap answer is in
+    record {
+      answer = a;
+      images = done_ok (outcome k c.args.self.now.record.body.now c.args.self.now.record.reads images) c.effect.new.new c.args.new.now c.args.self.now.record.writes c.args.self.now.record.number images
+          (image_at c.scatter.new.self.images) a (c.in_ok-effect.ensures.buffer ∙ ap (λ x. filled x c.args.new.now) is) c.scatter.ensures;
+    }
+
+pub returns-in_err-effect : goal.returns-in_err-effect
+returns-in_err-effect g c =
+    let k = g.K.Kind.meaning in
+    let images = image_at c.args.pages.now.images in
+    let is = reply-gathered k g.met.K.Kind.lawful c.args.self.now.record.body.now c.args.self.now.record.reads c.args.self.now.record.writes c.args.self.now.scoped images c.gather-used.result c.gather-used.new.old (length c.args.new.now)
+    c.gather-used.ensures.used c.gather-used.auto.old c.gather-used.ensures.front c.requires in
+    let a = c.in_err-effect.ensures.answer ∙ ap answer is in
+    let p = err_from_is_err_and c.from_residual.result c.from_residual.ensures.1 in
+    rw (p.1, p.2)
+    (record { answer = a; images = done-err (outcome k c.args.self.now.record.body.now c.args.self.now.record.reads images) c.in_err-effect.field-0.0 c.args.self.now.record.writes c.args.self.now.record.number images a })

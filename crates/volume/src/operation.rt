@@ -1,0 +1,13 @@
+// An operation of a kind, as a record has it: a number, a body that the kind accepts, and the sets that the kind gives for it.
+ghost use Rattle.std.specs.Prelude.{◌≡◌, Ok};
+
+use kinds::Kind;
+use logblocks::Record;
+use std::marker::PhantomData;
+
+#[derive(Drop)]
+pub(crate) struct Operation<'a, K: Kind> {
+    pub(crate) record: Record<'a>,
+    pub(crate) kind: PhantomData<K>,
+    ghost scoped: { K.Kind.meaning.scope record.body.now ≡ Ok (record.reads, record.writes) },
+}
