@@ -15,6 +15,7 @@ use crate::store_reader::StoreReader;
 use faults::Fault;
 use logblocks::read_header;
 use media::{BLOCK, Medium};
+use sets::Page;
 use stores::PageStore;
 
 const IMAGE: usize = 256;
@@ -79,12 +80,11 @@ impl<'a, S: PageStore> StoreReader<'a, S> {
     }
 
     // The stored image of a page.
-    fn image(&self, page: u32) -> [u8; IMAGE]
-        requires page { page < 64 }
-        ensures { result ≡ (S.PageStore.meaning self.now.store.now).image page }
+    fn image(&self, page: Page) -> [u8; IMAGE]
+        ensures { result ≡ (S.PageStore.meaning self.now.store.now).image page.number }
     {
         let mut image = [0u8; IMAGE];
-        let _ = self.store.read(page, &mut image);
+        let _ = self.store.read(page.number, &mut image);
         image
     }
 
@@ -93,7 +93,8 @@ impl<'a, S: PageStore> StoreReader<'a, S> {
         ensures { (q : ℕ) → image_at result.images q ≡ taken (S.PageStore.meaning self.now.store.now).image q }
     {
         let mut pages = WorkingPages::blank();
-        for page in 0..64u32 {
+        for number in 0..64u32 {
+            let page = Page { number };
             pages.set_image(page, &self.image(page));
         }
         pages
@@ -105,11 +106,9 @@ impl WorkingPages {
     pub(crate) fn check_numbers(&self, next: u32) -> Result<(), Fault>
         ensures { refusal result ≡ ahead_fault (image_at self.now.images) next }
     {
-        for page in 0..64u32 {
-            if self.number(page) >= next {
-                return Err(Fault::NumberAhead(page));
-            }
+        match (0..64u32).find(|number| self.number(Page { number: *number }) >= next) {
+            Some(page) => Err(Fault::NumberAhead(page)),
+            None => Ok(()),
         }
-        Ok(())
     }
 }

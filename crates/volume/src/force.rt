@@ -1,8 +1,7 @@
 // Force: the records that wait go to the log.
-ghost use Rattle.std.specs.Prelude.{◌≡◌, ◌-◌, ◌<◌, length, drop, replicate, IfOk, slice_index_or};
+ghost use Rattle.std.specs.Prelude.{◌≡◌, ◌-◌, ◌<◌, length, drop, IfOk};
 ghost use Rattle.faults.specs.Faults.{refusal};
 ghost use Rattle.media.specs.Media.{Wrote};
-ghost use Rattle.tables.specs.Waiting.{waiting as waiting_of};
 ghost use Rattle.volume.specs.Working.{number_of};
 ghost use Rattle.volume.specs.LogReading.{place_of};
 ghost use Rattle.volume.specs.Models.{up_model};
@@ -14,30 +13,27 @@ use crate::up::Up;
 use faults::Fault;
 use kinds::Kind;
 use media::{BLOCK, Medium};
-use sets::u32_at;
+use sets::Number;
 use stores::PageStore;
-use tables::Waiting;
 
-// Writes the i-th of the records that wait.
-fn write_record<L: Medium>(log: &mut L, waiting: &Waiting, i: usize) -> Result<(), Fault>
-    ensures { Wrote (L.Medium.model log.old) (place_of (number_of (slice_index_or (waiting_of waiting.now) i (replicate 256 0)))) (slice_index_or (waiting_of waiting.now) i (replicate 256 0)) (refusal result) (L.Medium.model log.new) }
+// Writes a record into the block of its number.
+fn write_record<L: Medium>(log: &mut L, block: &[u8; BLOCK]) -> Result<(), Fault>
+    ensures { Wrote (L.Medium.model log.old) (place_of (number_of block.now)) block.now (refusal result) (L.Medium.model log.new) }
 {
-    let mut block = [0u8; BLOCK];
-    let _ = waiting.copy(i, &mut block);
-    log.write(record_place(u32_at(&block, 0)), &block)
+    log.write(record_place(u32::read_at(block, 0)), block)
 }
 
-// Writes the records that wait, in order, up to the first write that is refused; says how many were written before it.
-fn write_records<L: Medium>(log: &mut L, waiting: &Waiting) -> (usize, Result<(), Fault>)
-    ensures { Logged (L.Medium.model log.old) (waiting_of waiting.now) (refusal result.1) (L.Medium.model log.new) (drop result.0 (waiting_of waiting.now)) }
+// Writes records, in order, up to the first write that is refused; says how many were written before it.
+fn write_records<L: Medium>(log: &mut L, blocks: &[[u8; BLOCK]]) -> (usize, Result<(), Fault>)
+    ensures { Logged (L.Medium.model log.old) blocks.now (refusal result.1) (L.Medium.model log.new) (drop result.0 blocks.now) }
 {
-    let n = waiting.len();
-    for i in 0..n {
-        if let Err(fault) = write_record(log, waiting, i) {
-            return (i, Err(fault));
+    for (i, block) in blocks.iter().enumerate() {
+        let outcome = write_record(log, block);
+        if outcome.is_err() {
+            return (i, outcome);
         }
     }
-    (n, Ok(()))
+    (blocks.len(), Ok(()))
 }
 
 impl<K: Kind, L: Medium, S: PageStore> Up<K, L, S> {
@@ -61,7 +57,7 @@ impl<K: Kind, L: Medium, S: PageStore> Up<K, L, S> {
         ensures number { IfOk result (λ n. n ≡ self.old.next - 1) }
     {
         self.status?;
-        let (written, outcome) = write_records(&mut self.log, &self.waiting);
+        let (written, outcome) = write_records(&mut self.log, self.waiting.list());
         self.waiting.drop_front(written);
         self.settle(outcome)?;
         Ok(self.next.saturating_sub(1))

@@ -10,7 +10,7 @@ use faults::Fault;
 use kinds::Kind;
 use logblocks::Record;
 use media::{BLOCK, Medium};
-use sets::u32_at;
+use sets::Number;
 
 // The block of a record.
 pub(crate) fn record_place(number: u32) -> usize
@@ -26,13 +26,12 @@ fn check_record<K: Kind>(n: u32, block: &[u8]) -> Result<(), Fault>
     let Some(record) = Record::parse(block) else {
         return Err(Fault::BadRecord(n, 0));
     };
-    let Operation { record: wanted, .. } = Operation::<K>::of(n, record.body).map_err(
-        |code| Fault::BadRecord(n, code),
-    )?;
-    if record.reads == wanted.reads && record.writes == wanted.writes {
-        return Ok(());
+    let operation = Operation::<K>::of(n, record.body).map_err(|refusal| Fault::BadRecord(n, refusal.code()))?;
+    if operation.record.reads == record.reads && operation.record.writes == record.writes {
+        Ok(())
+    } else {
+        Err(Fault::SetsDiffer(n))
     }
-    Err(Fault::SetsDiffer(n))
 }
 
 impl<'a, L: Medium> LogReader<'a, L> {
@@ -49,7 +48,7 @@ impl<'a, L: Medium> LogReader<'a, L> {
     fn has_record(&self, n: u32) -> bool
         ensures { result ≡ bears (L.Medium.model self.now.log.now) n }
     {
-        u32_at(&self.block(n), 0) == n
+        u32::read_at(&self.block(n), 0) == n
     }
 
     // The number at which the log ends, read from its first number on: that of the first of 128 records that it does not have.

@@ -12,6 +12,7 @@ use crate::up::Up;
 use faults::Fault;
 use kinds::Kind;
 use media::Medium;
+use sets::Page;
 use stores::PageStore;
 
 impl<K: Kind, L: Medium, S: PageStore> Up<K, L, S> {
@@ -21,13 +22,11 @@ impl<K: Kind, L: Medium, S: PageStore> Up<K, L, S> {
         ensures buffer { buffer.new ≡ filled_with (refusal result) (image_at self.now.pages.images page) buffer.old }
     {
         self.status?;
-        if page >= 64 {
-            return Err(Fault::NoSuchPage(page));
-        }
+        let page = Page::new(page).ok_or(Fault::NoSuchPage(page))?;
         if buffer.len() != 256 {
             return Err(Fault::WrongLength(buffer.len()));
         }
-        self.pages.image(page, buffer);
+        buffer.copy_from_slice(self.pages.image(page));
         Ok(())
     }
 

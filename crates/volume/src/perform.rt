@@ -2,6 +2,7 @@
 ghost use Rattle.std.specs.Prelude.{◌≡◌, ℕ, ◌*◌, ◌≤◌, length, Ok, Err, MatchResult};
 ghost use Rattle.sets.specs.Sets.{size as size_of};
 ghost use Rattle.kinds.specs.Kinds.{answer as answer_of};
+ghost use Rattle.kinds.specs.Refusals.{code_of, coded};
 ghost use Rattle.logblocks.specs.Blocks.{block_of};
 ghost use Rattle.logblocks.specs.Views.{view};
 ghost use Rattle.volume.specs.Working.{image_at};
@@ -10,7 +11,7 @@ ghost use Rattle.volume.specs.Performing.{outcome, performed};
 use crate::operation::Operation;
 use crate::pages::WorkingPages;
 use graph::Op;
-use kinds::Kind;
+use kinds::{Kind, Refusal};
 use logblocks::Record;
 use sets::size;
 use std::marker::PhantomData;
@@ -22,8 +23,8 @@ const CONTENTS: usize = 224;
 
 impl<'a, K: Kind> Operation<'a, K> {
     // The operation that a body is, or the code with which the kind refuses it.
-    pub(crate) fn of(number: u32, body: &'a [u8]) -> Result<Operation<'a, K>, u8>
-        ensures { MatchResult result (λ o. (o.record.number ≡ number) × (o.record.body.now ≡ body.now)) (λ c. K.Kind.meaning.scope body.now ≡ Err c) }
+    pub(crate) fn of(number: u32, body: &'a [u8]) -> Result<Operation<'a, K>, Refusal>
+        ensures { MatchResult result (λ o. (o.record.number ≡ number) × (o.record.body.now ≡ body.now)) (λ refusal. K.Kind.meaning.scope body.now ≡ Err (code_of refusal)) }
     {
         let (reads, writes) = K::scope(body)?;
         Ok(Operation {
@@ -59,9 +60,9 @@ impl<'a, K: Kind> Operation<'a, K> {
     }
 
     // Does the operation, with a buffer for the new contents that is as long as they are.
-    fn perform_with(&self, pages: &mut WorkingPages, new: &mut [u8]) -> Result<(), u8>
+    fn perform_with(&self, pages: &mut WorkingPages, new: &mut [u8]) -> Result<(), Refusal>
         requires { length new.old ≡ 224 * size_of self.now.record.writes }
-        ensures answer { result ≡ answer_of (outcome K.Kind.meaning self.now.record.body.now self.now.record.reads (image_at pages.old.images)) }
+        ensures answer { coded result ≡ answer_of (outcome K.Kind.meaning self.now.record.body.now self.now.record.reads (image_at pages.old.images)) }
         ensures images { (q : ℕ) → image_at pages.new.images q ≡ performed (outcome K.Kind.meaning self.now.record.body.now self.now.record.reads (image_at pages.old.images)) self.now.record.writes self.now.record.number (image_at pages.old.images) q }
     {
         let mut old = [0u8; FOUR];
@@ -72,8 +73,8 @@ impl<'a, K: Kind> Operation<'a, K> {
     }
 
     // Does the operation; the pages that it writes take its number.
-    pub(crate) fn perform(&self, pages: &mut WorkingPages) -> Result<(), u8>
-        ensures answer { result ≡ answer_of (outcome K.Kind.meaning self.now.record.body.now self.now.record.reads (image_at pages.old.images)) }
+    pub(crate) fn perform(&self, pages: &mut WorkingPages) -> Result<(), Refusal>
+        ensures answer { coded result ≡ answer_of (outcome K.Kind.meaning self.now.record.body.now self.now.record.reads (image_at pages.old.images)) }
         ensures images { (q : ℕ) → image_at pages.new.images q ≡ performed (outcome K.Kind.meaning self.now.record.body.now self.now.record.reads (image_at pages.old.images)) self.now.record.writes self.now.record.number (image_at pages.old.images) q }
     {
         let mut new = [0u8; FOUR];

@@ -46,7 +46,7 @@ impl Rebuilt {
         let number = operation.record.number;
         operation
             .perform(&mut self.pages)
-            .map_err(|code| Fault::RedoRefused(number, code))?;
+            .map_err(|refusal| Fault::RedoRefused(number, refusal.code()))?;
         let _ = self.dirty.push(operation.op());
         Ok(())
     }

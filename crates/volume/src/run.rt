@@ -47,7 +47,7 @@ impl<K: Kind, L: Medium, S: PageStore> Up<K, L, S> {
         if body.len() > LONGEST {
             return Err(Fault::WrongLength(body.len()));
         }
-        let operation = Operation::of(self.next, body).map_err(|code| Fault::BodyRefused(code))?;
+        let operation = Operation::of(self.next, body).map_err(|refusal| Fault::BodyRefused(refusal.code()))?;
         self.check_room()?;
         Ok(operation)
     }
@@ -63,7 +63,7 @@ impl<K: Kind, L: Medium, S: PageStore> Up<K, L, S> {
     {
         operation
             .perform(&mut self.pages)
-            .map_err(|code| Fault::PagesRefused(code))?;
+            .map_err(|refusal| Fault::PagesRefused(refusal.code()))?;
         let _ = self.waiting.push(&operation.block());
         let _ = self.dirty.push(operation.op());
         let number = self.next;

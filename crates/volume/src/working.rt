@@ -1,18 +1,29 @@
 // The working pages, held by the volume itself.
-ghost use Rattle.std.specs.Prelude.{◌≡◌, ℕ, ◌+◌, ◌*◌, ◌<◌, ◌≤◌, Bool, true, not, ◌||◌, [], ◌++◌, length, take, replicate, if◌then◌else◌};
+ghost use Rattle.std.specs.Prelude.{◌≡◌, ℕ, ◌+◌, ◌*◌, ◌<◌, ◌≤◌, Bool, not, ◌||◌, [], ◌++◌, length, take, replicate, if◌then◌else◌, true};
 ghost use Rattle.sets.specs.Sets.{has, size as size_of};
 ghost use Rattle.sets.specs.Words.{part};
 ghost use Rattle.redo.specs.Recovery.{every};
 ghost use Rattle.volume.specs.Working.{image_at, number_of, contents_in, gathered, stamped, written, replaced};
 
 use crate::pages::{IMAGES, WorkingPages};
-use sets::{contains, put_u32, u32_at};
+use sets::{Number, Page, contains};
 
 const IMAGE: usize = 256;
 
 const NUMBER: usize = 4;
 
 const CONTENTS: usize = 224;
+
+// The contents of four pages.
+const FOUR: usize = 896;
+
+// The N bytes from place `at` on.
+fn bytes_at<const N: usize>(bytes: &[u8], at: usize) -> &[u8; N]
+    requires { at + N ≤ length bytes.now }
+    ensures { result.now ≡ part at N bytes.now }
+{
+    bytes[at..].split_first_chunk().unwrap().0
+}
 
 impl WorkingPages {
     // Blank pages: all zeros.
@@ -32,23 +43,25 @@ impl WorkingPages {
         &self.images
     }
 
-    // Copies the image of a page into a buffer.
-    pub(crate) fn image(&self, page: u32, buffer: &mut [u8])
-        requires page { page < 64 }
-        requires long { length buffer.old ≡ 256 }
-        ensures { buffer.new ≡ image_at self.now.images page }
+    // The image of a page.
+    pub(crate) fn image(&self, page: Page) -> &[u8; IMAGE]
+        ensures { result.now ≡ image_at self.now.images page.number }
     {
-        let at = page as usize * IMAGE;
-        buffer.copy_from_slice(&self.images[at..at + IMAGE]);
+        bytes_at(&self.images, IMAGE * page.index())
     }
 
     // The number of a page.
-    pub(crate) fn number(&self, page: u32) -> u32
-        requires page { page < 64 }
-        ensures { result ≡ number_of (image_at self.now.images page) }
+    pub(crate) fn number(&self, page: Page) -> u32
+        ensures { result ≡ number_of (image_at self.now.images page.number) }
     {
-        let at = page as usize * IMAGE;
-        u32_at(&self.images[at..at + IMAGE], 0)
+        u32::read_at(self.image(page), 0)
+    }
+
+    // The contents of a page.
+    fn contents(&self, page: Page) -> &[u8; CONTENTS]
+        ensures { result.now ≡ contents_in (image_at self.now.images page.number) }
+    {
+        bytes_at(self.image(page), NUMBER)
     }
 
     // Whether the numbers of a set's pages all pass a test.
@@ -57,91 +70,80 @@ impl WorkingPages {
         ensures { (t : ℕ → Bool) → ((n : ℕ) (r : Bool) → F.post test n r → r ≡ t n) → result ≡ every 64 (λ p. not (has set p) || t (number_of (image_at self.now.images p))) }
     {
         (0..64u32).all(
-            |page|
-                requires page { page < 64 }
+            |number|
+                requires page { number < 64 }
                 requires callable { F.IsAlwaysCallable test }
-                ensures { (t : ℕ → Bool) → ((n : ℕ) (r : Bool) → F.post test n r → r ≡ t n) → result ≡ (not (has set page) || t (number_of (image_at self.entry.now.images page))) }
-            { !contains(set, page) || test(self.number(page)) },
+                ensures { (t : ℕ → Bool) → ((n : ℕ) (r : Bool) → F.post test n r → r ≡ t n) → result ≡ (not (has set number) || t (number_of (image_at self.entry.now.images number))) }
+            { !contains(set, number) || test(self.number(Page { number })) },
         )
     }
 
     // Replaces the image of a page.
-    pub(crate) fn set_image(&mut self, page: u32, image: &[u8])
-        requires page { page < 64 }
-        requires long { length image.now ≡ 256 }
-        ensures { (q : ℕ) → image_at self.new.images q ≡ replaced page image.now (image_at self.old.images) q }
+    pub(crate) fn set_image(&mut self, page: Page, image: &[u8; IMAGE])
+        ensures { (q : ℕ) → image_at self.new.images q ≡ replaced page.number image.now (image_at self.old.images) q }
     {
-        let at = page as usize * IMAGE;
+        let at = page.index() * IMAGE;
         self.images[at..at + IMAGE].copy_from_slice(image);
     }
 }
 
 impl WorkingPages {
     // Copies the contents of one page to place `at`, if the page is in the set; answers the place behind them.
-    fn lift(&self, set: u64, page: u32, old: &mut [u8], at: usize) -> usize
-        requires page { page < 64 }
-        requires room { has set page ≡ true → at + 224 ≤ length old.old }
+    fn lift(&self, set: u64, page: Page, old: &mut [u8], at: usize) -> usize
+        requires room { has set page.number ≡ true → at + 224 ≤ length old.old }
         requires within { at ≤ length old.old }
-        ensures next { result ≡ at + 224 * (if has set page then 1 else 0) }
-        ensures front { take result old.new ≡ take at old.old ++ (if has set page then contents_in (image_at self.now.images page) else []) }
+        ensures next { result ≡ at + 224 * (if has set page.number then 1 else 0) }
+        ensures front { take result old.new ≡ take at old.old ++ (if has set page.number then contents_in (image_at self.now.images page.number) else []) }
     {
-        if !contains(set, page) {
+        if !contains(set, page.number) {
             return at;
         }
-        let from = page as usize * IMAGE + NUMBER;
-        old[at..at + CONTENTS].copy_from_slice(&self.images[from..from + CONTENTS]);
+        old[at..at + CONTENTS].copy_from_slice(self.contents(page));
         at + CONTENTS
     }
 
     // Copies the contents of a set's pages, rising, to the front of a buffer for four pages; answers how many bytes they are.
-    pub(crate) fn gather(&self, set: u64, old: &mut [u8]) -> usize
+    pub(crate) fn gather(&self, set: u64, old: &mut [u8; FOUR]) -> usize
         requires few { size_of set ≤ 4 }
-        requires long { length old.old ≡ 896 }
         ensures used { result ≡ 224 * size_of set }
         ensures front { take result old.new ≡ gathered set (image_at self.now.images) }
     {
         let mut at = 0;
-        for page in 0..64u32 {
-            at = self.lift(set, page, old, at);
+        for number in 0..64u32 {
+            at = self.lift(set, Page { number }, old, at);
         }
         at
     }
 
     // The image of a page with another number and other contents.
-    fn new_image(&self, page: u32, number: u32, contents: &[u8]) -> [u8; IMAGE]
-        requires page { page < 64 }
-        requires long { length contents.now ≡ 224 }
-        ensures { result ≡ stamped number contents.now (image_at self.now.images page) }
+    fn new_image(&self, page: Page, number: u32, contents: &[u8; CONTENTS]) -> [u8; IMAGE]
+        ensures { result ≡ stamped number contents.now (image_at self.now.images page.number) }
     {
-        let mut image = [0u8; IMAGE];
-        self.image(page, &mut image);
-        put_u32(&mut image, 0, number);
+        let mut image = *self.image(page);
+        number.write_at(&mut image, 0);
         image[NUMBER..NUMBER + CONTENTS].copy_from_slice(contents);
         image
     }
 
     // Gives a page a number and contents.
-    fn stamp(&mut self, page: u32, number: u32, contents: &[u8])
-        requires page { page < 64 }
-        requires long { length contents.now ≡ 224 }
-        ensures { (q : ℕ) → image_at self.new.images q ≡ replaced page (stamped number contents.now (image_at self.old.images page)) (image_at self.old.images) q }
+    fn stamp(&mut self, page: Page, number: u32, contents: &[u8; CONTENTS])
+        ensures { (q : ℕ) → image_at self.new.images q ≡ replaced page.number (stamped number contents.now (image_at self.old.images page.number)) (image_at self.old.images) q }
     {
         let image = self.new_image(page, number, contents);
         self.set_image(page, &image);
     }
 
     // Gives one page its share of the new contents, if it is in the set; answers the place behind it.
-    fn lay(&mut self, set: u64, number: u32, new: &[u8], page: u32, at: usize) -> usize
-        requires page { page < 64 }
-        requires room { has set page ≡ true → at + 224 ≤ length new.now }
+    fn lay(&mut self, set: u64, number: u32, new: &[u8], page: Page, at: usize) -> usize
+        requires room { has set page.number ≡ true → at + 224 ≤ length new.now }
         requires within { at ≤ length new.now }
-        ensures next { result ≡ at + 224 * (if has set page then 1 else 0) }
-        ensures images { (q : ℕ) → image_at self.new.images q ≡ (if has set page then replaced page (stamped number (part at 224 new.now) (image_at self.old.images page)) (image_at self.old.images) q else image_at self.old.images q) }
+        ensures next { result ≡ at + 224 * (if has set page.number then 1 else 0) }
+        ensures images { (q : ℕ) → image_at self.new.images q ≡ (if has set page.number then replaced page.number (stamped number (part at 224 new.now) (image_at self.old.images page.number)) (image_at self.old.images) q else image_at self.old.images q) }
     {
-        if !contains(set, page) {
+        if !contains(set, page.number) {
             return at;
         }
-        self.stamp(page, number, &new[at..at + CONTENTS]);
+        self.stamp(page, number, bytes_at(new, at));
         at + CONTENTS
     }
 
@@ -152,7 +154,7 @@ impl WorkingPages {
     {
         let mut at = 0;
         for page in 0..64u32 {
-            at = self.lay(set, number, new, page, at);
+            at = self.lay(set, number, new, Page { number: page }, at);
         }
     }
 }
