@@ -1,10 +1,11 @@
 // A memory chip with a store on a partition of it, and an install that is cut.
 use crate::survey::{Seen, survey};
-use media::{Left, MemoryMedium, Partition};
+use media::{BLOCK, Left, MemoryMedium, Partition};
+use std::fmt;
 use stores::{JournalStore, PageStore, ShadowStore};
 
 // A chip of 130 blocks; the store stands on 129 of them, from block 1 on.
-pub const CHIP: usize = 33280;
+const CHIP: usize = 33280;
 
 const IMAGES: usize = 16384;
 
@@ -17,53 +18,54 @@ pub enum Kind {
     Shadow,
 }
 
+impl fmt::Display for Kind {
+    fn fmt<W: fmt::Write>(&self, f: &mut fmt::Formatter<W>) -> fmt::Result {
+        f.write_str(match self {
+            Kind::Journal => "journal store",
+            Kind::Shadow => "shadow store",
+        })
+    }
+}
+
 // The power fails after so many writes, and leaves the block of the next old or new.
 #[derive(Clone, Copy)]
 pub struct Cut {
     pub write: u64,
-    pub new: bool,
+    pub left: Left,
 }
 
 // All 64 images of a version: its number, bytes that tell page and version, and rubbish where zeros belong.
 fn images(version: u8) -> [u8; IMAGES] {
     let mut all = [0u8; IMAGES];
     for (i, byte) in all.iter_mut().enumerate() {
-        *byte = written(version, i);
+        *byte = written(version, i / BLOCK, i % BLOCK);
     }
     all
 }
 
-// Byte i of the images of a version, as they are handed to an install.
-fn written(version: u8, i: usize) -> u8 {
-    let at = i % 256;
-    if at >= 228 {
-        return 238;
+// A byte of a page's image in a version, as it is handed to an install.
+fn written(version: u8, page: usize, at: usize) -> u8 {
+    if at < 228 {
+        stored(version, page, at)
+    } else {
+        238
     }
-    stored(version, i)
 }
 
-// The same as it is stored.
-pub fn stored(version: u8, i: usize) -> u8 {
-    let page = i / 256 % 64;
-    let at = i % 256;
-    if at >= 228 || (at > 0 && at < 4) {
-        return 0;
+// The same as it is stored; version 0 is blank.
+pub fn stored(version: u8, page: usize, at: usize) -> u8 {
+    match at {
+        0 => version,
+        4..=227 if version > 0 => { ((page % 64 * 5 + at + usize::from(version) * 60) % 256) as u8 }
+        _ => 0,
     }
-    if at == 0 {
-        return version;
-    }
-    ((page * 5 + at + version as usize * 60) % 256) as u8
-}
-
-fn left(new: bool) -> Left {
-    if new { Left::New } else { Left::Old }
 }
 
 // A medium over the chip, with a fuse if one is wanted.
 fn medium<'a>(bytes: &'a mut [u8], fuse: Option<Cut>) -> Partition<MemoryMedium<'a>> {
     let mut medium = MemoryMedium::new(bytes);
     if let Some(cut) = fuse {
-        medium.set_fuse(cut.write, left(cut.new));
+        medium.set_fuse(cut.write, cut.left);
     }
     Partition::new(medium, 1, 129)
 }
@@ -78,22 +80,26 @@ fn install<S: PageStore>(store: &mut S, old: u8) -> Option<Seen> {
 }
 
 // The same on a store over the chip, with a fuse if one is wanted.
+// Kept: a store's type names the borrow of the chip, which is another for each attempt, so no one closure makes them all.
 fn attempt(kind: Kind, bytes: &mut [u8], fuse: Option<Cut>, old: u8) -> Option<Seen> {
+    let medium = medium(bytes, fuse);
     match kind {
-        Kind::Journal => install(&mut JournalStore::new(medium(bytes, fuse)), old),
-        Kind::Shadow => install(&mut ShadowStore::new(medium(bytes, fuse)), old),
+        Kind::Journal => install(&mut JournalStore::new(medium), old),
+        Kind::Shadow => install(&mut ShadowStore::new(medium), old),
     }
 }
 
-// Installs version 1; then version 2, cut after `earlier` writes, if it says so; then one version more, cut as `cut` says.
+// On a new chip: installs version 1; then version 2, cut as `earlier` says, if it does; then one version more, cut as `cut` says.
 // None where that fuse did not blow.
-pub fn cut_once(kind: Kind, bytes: &mut [u8], earlier: Option<u64>, cut: Cut) -> Option<Seen> {
-    let _ = attempt(kind, bytes, None, 0);
-    match earlier {
-        None => attempt(kind, bytes, Some(cut), 1),
-        Some(write) => {
-            let _ = attempt(kind, bytes, Some(Cut { write, new: false }), 1);
-            attempt(kind, bytes, Some(cut), 2)
+pub fn cut_once(kind: Kind, earlier: Option<Cut>, cut: Cut) -> Option<Seen> {
+    let mut bytes = [0u8; CHIP];
+    let _ = attempt(kind, &mut bytes, None, 0);
+    let old = match earlier {
+        None => 1,
+        Some(_) => {
+            let _ = attempt(kind, &mut bytes, earlier, 1);
+            2
         }
-    }
+    };
+    attempt(kind, &mut bytes, Some(cut), old)
 }

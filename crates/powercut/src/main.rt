@@ -5,43 +5,41 @@ mod chip;
 mod report;
 mod survey;
 
-use chip::{CHIP, Cut, Kind};
+use chip::{Cut, Kind};
+use media::Left;
 use std::io;
 
 // The writes of an install are counted by trying: a fuse that does not blow ends the round.
 const MOST_WRITES: u64 = 64;
 
-// Every cut of one install over `first`, which may itself have been cut at write `earlier`.
-fn round(rt: &HostRuntime, kind: Kind, earlier: Option<u64>) -> io::Result<()> {
-    let mut tally = report::Tally::new();
+// Every cut of one install; the install before it may itself have been cut, as `earlier` says.
+fn round(rt: &HostRuntime, kind: Kind, earlier: Option<Cut>) -> io::Result<()> {
+    let mut all = Vec::new(rt.alloc());
     for write in 0..MOST_WRITES {
-        let mut passed = false;
-        for new in [false, true] {
-            let mut bytes = [0u8; CHIP];
-            let cut = Cut { write, new };
-            match chip::cut_once(kind, &mut bytes, earlier, cut) {
-                Some(seen) => {
-                    report::line(rt, &cut, &seen)?;
-                    tally.add(&seen);
-                }
-                None => passed = true,
-            }
-        }
-        if passed {
-            break;
+        for left in [Left::Old, Left::New] {
+            let cut = Cut { write, left };
+            let Some(seen) = chip::cut_once(kind, earlier, cut) else {
+                return report::closing(rt, kind, &all);
+            };
+            report::line(rt, &cut, &seen)?;
+            all.push(seen)?;
         }
     }
-    report::closing(rt, kind, &tally)
+    report::closing(rt, kind, &all)
 }
 
 fn main(rt: HostRuntime) -> io::Result<()> {
     println!(rt; "power cut at each block write of an install of pages 3, 40 and 63")?;
     for kind in [Kind::Journal, Kind::Shadow] {
         println!(rt; "")?;
-        report::heading(&rt, kind)?;
+        println!(rt; "{kind}")?;
         round(&rt, kind, None)?;
     }
     println!(rt; "")?;
     println!(rt; "journal store, cut before at write 6, so that the next install settles first")?;
-    round(&rt, Kind::Journal, Some(5))
+    let earlier = Cut {
+        write: 5,
+        left: Left::Old,
+    };
+    round(&rt, Kind::Journal, Some(earlier))
 }

@@ -1,70 +1,68 @@
 // What a store shows after a cut: which pages are old, which are new.
 use crate::chip::stored;
+use media::BLOCK;
 use sets::contains;
+use std::fmt;
 use stores::PageStore;
 
-#[derive(Drop)]
+// What became of the pages of a set.
+#[derive(Clone, Copy, PartialEq, Eq)]
+pub enum Outcome {
+    AllOld,
+    AllNew,
+    Torn,
+}
+
+impl fmt::Display for Outcome {
+    fn fmt<W: fmt::Write>(&self, f: &mut fmt::Formatter<W>) -> fmt::Result {
+        f.write_str(match self {
+            Outcome::AllOld => "all old",
+            Outcome::AllNew => "all new",
+            Outcome::Torn => "TORN",
+        })
+    }
+}
+
+#[derive(Clone, Copy)]
 pub struct Seen {
     // the block at which the power failed
     pub block: u64,
-    // how many pages of the set are old, and how many new
-    pub old: u32,
-    pub new: u32,
-    // how many of the other pages are as they were
-    pub others: u32,
+    pub pages: Outcome,
+    // whether all other pages are as they were
+    pub others: bool,
 }
 
-impl Seen {
-    pub fn all_old(&self) -> bool {
-        self.old == 3 && self.new == 0
-    }
-
-    pub fn all_new(&self) -> bool {
-        self.new == 3 && self.old == 0
-    }
+// Whether a store shows a page in a version.
+fn shows<S: PageStore>(store: &S, version: u8, page: u32) -> bool {
+    let mut image = [0u8; BLOCK];
+    store.read(page, &mut image).is_ok()
+        && image
+            .iter()
+            .enumerate()
+            .all(|(at, byte)| *byte == stored(version, page as usize, at))
 }
 
-// Whether an image is that of a page in a version; version 0 is blank.
-fn is_version(image: &[u8], version: u8, page: u32) -> bool {
-    let mut same = image.len() == 256;
-    for (i, byte) in image.iter().enumerate() {
-        let wanted = if version == 0 {
-            0
-        } else {
-            stored(
-                version,
-                (page as usize).saturating_mul(256).saturating_add(i),
-            )
-        };
-        same = same && *byte == wanted;
-    }
-    same
+// Whether all pages of a set are in a version.
+fn all_in<S: PageStore>(store: &S, set: u64, version: u8) -> bool {
+    (0..64u32)
+        .filter(|page| contains(set, *page))
+        .all(|page| shows(store, version, page))
 }
 
 // Powers a store on and reads all 64 pages.
 pub fn survey<S: PageStore>(store: &mut S, set: u64, block: u64, old: u8, new: u8) -> Seen {
-    let mut seen = Seen {
-        block,
-        old: 0,
-        new: 0,
-        others: 0,
-    };
     store.power_on();
-    for page in 0..64u32 {
-        let mut image = [0u8; 256];
-        let read = store.read(page, &mut image).is_ok();
-        if !contains(set, page) {
-            seen.others = seen
-                .others
-                .saturating_add((read && is_version(&image, 0, page)) as u32);
-        } else {
-            seen.old = seen
-                .old
-                .saturating_add((read && is_version(&image, old, page)) as u32);
-            seen.new = seen
-                .new
-                .saturating_add((read && is_version(&image, new, page)) as u32);
-        }
+    let pages = if all_in(store, set, old) {
+        Outcome::AllOld
+    } else if all_in(store, set, new) {
+        Outcome::AllNew
+    } else {
+        Outcome::Torn
+    };
+    let others = all_in(store, !set, 0);
+    Seen {
+        block,
+        pages,
+        others,
     }
-    seen
 }
