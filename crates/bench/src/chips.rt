@@ -2,25 +2,23 @@
 use crate::story;
 use media::{MemoryMedium, Partition};
 use std::io;
-use stores::{JournalStore, ShadowStore};
+use stores::PageStore;
 use volume::Down;
 
-const CHIP: usize = 33280;
+pub const CHIP: usize = 33280;
 
 const BLOCKS: usize = 129;
 
-pub fn on_journal(rt: &HostRuntime) -> io::Result<()> {
-    let mut log = [0u8; CHIP];
-    let mut pages = [0u8; CHIP];
-    let log = Partition::new(MemoryMedium::new(&mut log), 1, BLOCKS);
-    let store = JournalStore::new(Partition::new(MemoryMedium::new(&mut pages), 1, BLOCKS));
-    story::all(rt, Down::new(log, store))
-}
-
-pub fn on_shadow(rt: &HostRuntime) -> io::Result<()> {
-    let mut log = [0u8; CHIP];
-    let mut pages = [0u8; CHIP];
-    let log = Partition::new(MemoryMedium::new(&mut log), 1, BLOCKS);
-    let store = ShadowStore::new(Partition::new(MemoryMedium::new(&mut pages), 1, BLOCKS));
+// The bench run on the store that `store_on` makes.
+pub fn run<'a, S: PageStore + Drop, F: FnOnce(Partition<MemoryMedium<'a>>) -> S>(
+    rt: &HostRuntime,
+    log: &'a mut [u8; CHIP],
+    pages: &'a mut [u8; CHIP],
+    store_on: F,
+) -> io::Result<()>
+    requires { F.IsAlwaysCallable store_on }
+{
+    let log = Partition::new(MemoryMedium::new(log), 1, BLOCKS);
+    let store = store_on(Partition::new(MemoryMedium::new(pages), 1, BLOCKS));
     story::all(rt, Down::new(log, store))
 }

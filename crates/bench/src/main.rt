@@ -5,12 +5,21 @@ mod chips;
 mod story;
 mod tell;
 
+use chips::CHIP;
 use std::io;
+use stores::{JournalStore, ShadowStore};
 
 fn main(rt: HostRuntime) -> io::Result<()> {
     println!(rt; "journal store")?;
-    chips::on_journal(&rt)?;
+    let (mut log, mut pages) = ([0; CHIP], [0; CHIP]);
+    chips::run(
+        &rt,
+        &mut log,
+        &mut pages,
+        |medium| JournalStore::new(medium),
+    )?;
     println!(rt; "")?;
     println!(rt; "shadow store")?;
-    chips::on_shadow(&rt)
+    let (mut log, mut pages) = ([0; CHIP], [0; CHIP]);
+    chips::run(&rt, &mut log, &mut pages, |medium| ShadowStore::new(medium))
 }

@@ -1,69 +1,47 @@
 // The calls of the bench run, each printed with its answer.
-use crate::tell;
+use crate::tell::{self, Figure};
 use kinds::PageKind;
-use lives::{Answer, AnyVolume, Call, replay};
+use lives::{AnyVolume, Call, Refused, replay};
 use media::Medium;
 use std::io;
 use stores::PageStore;
 use volume::{Down, Up};
 
-const CALLS: usize = 10;
+// A call, its name, and what its answer is.
+#[derive(Clone, Copy)]
+struct Step(Call<'static>, &'static str, &'static str);
 
 // Fill 40 with 5, copy 40 to 41, fill 40 with 7, force; page 41 must be flushed first; stop and mount.
-fn calls() -> [Call<'static>; CALLS] {
-    [
-        Call::Mount,
-        Call::Run(&[2, 40, 5]),
+const STEPS: [Step; 10] = [
+    Step(Call::Mount, "mount", "records redone:"),
+    Step(Call::Run(&[2, 40, 5]), "fill page 40 with 5", "operation"),
+    Step(
         Call::Run(&[3, 40, 41, 1]),
-        Call::Run(&[2, 40, 7]),
-        Call::Force,
-        Call::Flush(40),
-        Call::Flush(41),
-        Call::Trim,
-        Call::Stop,
-        Call::Mount,
-    ]
-}
-
-// The same in words, and what their answers are.
-fn words(i: usize) -> (&'static str, &'static str) {
-    match i {
-        0 => ("mount", "records redone:"),
-        1 => ("fill page 40 with 5", "operation"),
-        2 => ("copy page 40 to page 41", "operation"),
-        3 => ("fill page 40 with 7", "operation"),
-        4 => ("force", "in the log up to operation"),
-        5 => ("flush page 40", "pages installed:"),
-        6 => ("flush page 41", "pages installed:"),
-        7 => ("trim", "the log starts at operation"),
-        8 => ("stop", "records dropped:"),
-        _ => ("mount", "records redone:"),
-    }
-}
-
-fn tell_all(rt: &HostRuntime, answers: &[Answer]) -> io::Result<()> {
-    for (i, answer) in answers.iter().enumerate() {
-        let (call, what) = words(i);
-        tell::answer(rt, call, what, *answer)?;
-    }
-    Ok(())
-}
+        "copy page 40 to page 41",
+        "operation",
+    ),
+    Step(Call::Run(&[2, 40, 7]), "fill page 40 with 7", "operation"),
+    Step(Call::Force, "force", "in the log up to operation"),
+    Step(Call::Flush(40), "flush page 40", "pages installed:"),
+    Step(Call::Flush(41), "flush page 41", "pages installed:"),
+    Step(Call::Trim, "trim", "the log starts at operation"),
+    Step(Call::Stop, "stop", "records dropped:"),
+    Step(Call::Mount, "mount", "records redone:"),
+];
 
 // The sixteenth waiting record passes, the seventeenth is refused.
 fn waiting<L: Medium, S: PageStore>(
     rt: &HostRuntime,
     up: &mut Up<PageKind, L, S>,
 ) -> io::Result<()> {
-    for _i in 0..15u32 {
+    for _ in 0..15u32 {
         let _ = up.run(&[2, 40, 9]);
     }
-    tell::number(
-        rt,
-        "a sixteenth record waits",
-        "operation",
-        up.run(&[2, 40, 9]),
-    )?;
-    tell::number(rt, "a seventeenth", "operation", up.run(&[2, 40, 9]))
+    for call in ["a sixteenth record waits", "a seventeenth"] {
+        let answer = up.run(&[2, 40, 9]);
+        tell::answer(rt, call, answer.map(|n| Figure("operation", u64::from(n))))?;
+    }
+    Ok(())
 }
 
 fn looks<L: Medium, S: PageStore>(rt: &HostRuntime, up: &mut Up<PageKind, L, S>) -> io::Result<()> {
@@ -77,16 +55,15 @@ pub fn all<L: Medium + Drop, S: PageStore + Drop>(
     rt: &HostRuntime,
     down: Down<PageKind, L, S>,
 ) -> io::Result<()> {
-    let mut answers = [Answer::OutOfTurn; CALLS];
-    let calls = calls();
+    let mut answers = [Err(Refused::OutOfTurn); STEPS.len()];
+    let calls = STEPS.map(|Step(call, _, _)| call);
     let (volume, made) = replay(down, 1, &calls, &mut answers);
-    tell::formatted(rt, made)?;
-    tell_all(rt, &answers)?;
+    tell::answer(rt, "format, first number 1", made.map(|_| "done"))?;
+    for (Step(_, call, what), answer) in STEPS.iter().zip(&answers) {
+        tell::answer(rt, call, answer.map(|n| Figure(what, n)))?;
+    }
     match volume {
-        AnyVolume::Up(up) => {
-            let mut up = up;
-            looks(rt, &mut up)
-        }
+        AnyVolume::Up(mut up) => looks(rt, &mut up),
         AnyVolume::Down(_) => println!(rt; "  the volume is down"),
     }
 }

@@ -1,70 +1,57 @@
 // A call and its answer on one line.
 use faults::Fault;
 use kinds::Kind;
-use lives::Answer;
+use lives::Refused;
 use media::Medium;
-use std::io;
+use sets::contains;
+use std::fmt::Display;
+use std::{fmt, io};
 use stores::PageStore;
 use volume::Up;
 
-pub fn formatted(rt: &HostRuntime, made: Result<usize, Fault>) -> io::Result<()> {
-    match made {
-        Ok(_) => println!(rt; "  format, first number 1: done"),
-        Err(fault) => println!(rt; "  format, first number 1: refused, {fault}"),
+// A number, and what it is.
+#[derive(Clone, Copy)]
+pub struct Figure<'a>(pub &'a str, pub u64);
+
+impl<'a> fmt::Display for Figure<'a> {
+    fn fmt<W: fmt::Write>(&self, f: &mut fmt::Formatter<W>) -> fmt::Result {
+        write!(f, "{} {}", self.0, self.1)
     }
 }
 
-pub fn answer(rt: &HostRuntime, call: &str, what: &str, answer: Answer) -> io::Result<()> {
-    match answer {
-        Answer::Done(n) => println!(rt; "  {call}: {what} {n}"),
-        Answer::Refused(fault) => println!(rt; "  {call}: refused, {fault}"),
-        Answer::OutOfTurn => println!(rt; "  {call}: out of turn"),
+// A set of pages, each behind a space.
+#[derive(Clone, Copy)]
+struct Pages(u64);
+
+impl fmt::Display for Pages {
+    fn fmt<W: fmt::Write>(&self, f: &mut fmt::Formatter<W>) -> fmt::Result {
+        for page in (0..64u32).filter(|page| contains(self.0, *page)) {
+            write!(f, " {page}")?;
+        }
+        Ok(())
     }
 }
 
-pub fn number(
+// What a call gives, or why it is not done.
+pub fn answer<T: Display + Drop, E: Into<Refused>>(
     rt: &HostRuntime,
     call: &str,
-    what: &str,
-    answer: Result<u32, Fault>,
+    answer: Result<T, E>,
 ) -> io::Result<()> {
-    match answer {
-        Ok(n) => println!(rt; "  {call}: {what} {n}"),
-        Err(fault) => println!(rt; "  {call}: refused, {fault}"),
+    match answer.map_err(|e| e.into()) {
+        Ok(given) => println!(rt; "  {call}: {given}"),
+        Err(refused) => println!(rt; "  {call}: {refused}"),
     }
-}
-
-// Prints the pages of a set.
-fn pages(rt: &HostRuntime, set: u64) -> io::Result<()> {
-    for page in 0..64u32 {
-        if sets::contains(set, page) {
-            print!(rt; " {page}")?;
-        }
-    }
-    Ok(())
 }
 
 pub fn groups(rt: &HostRuntime, page: u32, answer: Result<(u64, u64), Fault>) -> io::Result<()> {
     match answer {
         Ok((group, before)) => {
-            print!(rt; "  group of page {page}:")?;
-            pages(rt, group)?;
-            print!(rt; ", directly before it:")?;
-            pages(rt, before)?;
-            println!(rt; "")
+            let (group, before) = (Pages(group), Pages(before));
+            println!(rt; "  group of page {page}:{group}, directly before it:{before}")
         }
         Err(fault) => println!(rt; "  group of page {page}: refused, {fault}"),
     }
-}
-
-// Whether all bytes are the same.
-fn alike(bytes: &[u8], byte: u8) -> bool {
-    for b in bytes {
-        if *b != byte {
-            return false;
-        }
-    }
-    true
 }
 
 // The number and the contents of a page: all bytes alike, or not.
@@ -79,7 +66,7 @@ pub fn page<K: Kind, L: Medium, S: PageStore>(
     }
     let number = sets::u32_at(&image, 0);
     let byte = image[4];
-    if alike(&image[4..228], byte) {
+    if image[4..228].iter().all(|b| *b == byte) {
         println!(rt; "  page {page}: number {number}, all bytes {byte}")
     } else {
         println!(rt; "  page {page}: number {number}, bytes differ")

@@ -1,5 +1,7 @@
 -- Calls played one after another are a life.
-use Rattle.std.proofs.Common.{◌≡◌, ℕ, zero, suc, ◌+◌, ◌<◌, ◌≤◌, true, false, List, [], ◌∷◌, ◌++◌, length, get_or, take, drop, set, None, Result, sym, refl, ap, ◌∙◌, subst, add-one, take-suc, take-suc-set}
+use Rattle.std.proofs.Common.{◌≡◌, ℕ, ◌+◌, ◌<◌, ◌≤◌, true, false, List, [], ◌∷◌, ◌++◌, length, get_or, take, drop, set, None, Err, Result, sym, refl, ap, ◌∙◌, subst, add-one, take-suc, take-suc-set, arith}
+use Rattle.std.proofs.lemmas.List.{drop-set-lt}
+use Rattle.std.proofs.lemmas.Grind.{drop_more_same}
 use Rattle.faults.specs.declared.fault.Fault.{Fault}
 use Rattle.media.specs.declared.fate.Fate.{Fate}
 use Rattle.kinds.specs.Kinds.{Meaning, Lawful}
@@ -8,13 +10,13 @@ use Rattle.volume.specs.LogReading.{last_number}
 use Rattle.volume.specs.Formatting.{Formatted}
 use Rattle.lives.specs.declared.call.Call.{Call}
 use Rattle.lives.specs.declared.call.Call.TheVariants.{Run, Force, Flush, Trim, Stop, Mount}
-use Rattle.lives.specs.declared.answer.Answer.{Answer}
-use Rattle.lives.specs.declared.answer.Answer.TheVariants.{OutOfTurn}
+use Rattle.lives.specs.declared.answer.Refused.TheVariants.{OutOfTurn}
+use Rattle.lives.specs.Answers.{Answer, written_as}
 use Rattle.lives.specs.Books.{Event}
 use Rattle.lives.specs.Lives.{State, Steps, Life}
 use Rattle.lives.specs.Lives.State.{down}
 use Rattle.lives.specs.Lives.Life.{formatted, then}
-use Rattle.lives.specs.Replays.{takes, down_takes, event_of, reported, written_as, Plays, Replayed, Replays, Everywhere, Lived}
+use Rattle.lives.specs.Replays.{takes, down_takes, event_of, reported, Plays, Replayed, Replays, Everywhere, Lived}
 use Rattle.lives.specs.Replays.Plays.{out_of_turn, in_turn}
 use Rattle.lives.specs.Replays.Replayed.{nothing, more}
 use Rattle.lives.proofs.HoldsFacts.{law-holds}
@@ -26,8 +28,8 @@ taken-call k s s' c c' r a fate is takes-it w step =
     (event_of c' (reported r) fate ∷ [], subst (λ x. Plays k s x a (event_of c' (reported r) fate ∷ []) s') (sym is) (subst (λ x. Plays k s c' x (event_of c' (reported r) fate ∷ []) s') (sym w) (in_turn r fate takes-it step)))
 
 -- a call that is not
-pub idle-call : (k : Meaning) (s : State) (c c' : Call) → c ≡ c' → takes s c' ≡ false → (new : List Event) × Plays k s c OutOfTurn new s
-idle-call k s c c' is not_taken = ([], subst (λ x. Plays k s x OutOfTurn [] s) (sym is) (out_of_turn not_taken))
+pub idle-call : (k : Meaning) (s : State) (c c' : Call) → c ≡ c' → takes s c' ≡ false → (new : List Event) × Plays k s c (Err OutOfTurn) new s
+idle-call k s c c' is not_taken = ([], subst (λ x. Plays k s x (Err OutOfTurn) [] s) (sym is) (out_of_turn not_taken))
 
 pub down-idle : (c : Call) → (c ≡ Mount → ⊥) → down_takes c ≡ false
 down-idle (Run body) n = refl
@@ -54,19 +56,7 @@ replays-more k s s₁ s' cs ans i c a lc la is (es, before) (new, plays) = (new 
 
 -- the places behind the i-th stay as they were
 pub rest-still : (ans before : List Answer) (i : ℕ) (a : Answer) → drop i ans ≡ drop i before → drop (i + 1) (set ans i a) ≡ drop (i + 1) before
-rest-still ans before i a same = ap (λ j. drop j (set ans i a)) (add-one i) ∙ past ans i ∙ next ans i ∙ ap (drop 1) same ∙ sym (next before i) ∙ ap (λ j. drop j before) (sym (add-one i))
-  where
-    past : (xs : List Answer) (i : ℕ) → drop (suc i) (set xs i a) ≡ drop (suc i) xs
-    past [] zero = refl
-    past [] (suc i) = refl
-    past (x ∷ xs) zero = refl
-    past (x ∷ xs) (suc i) = past xs i
-
-    next : (xs : List Answer) (i : ℕ) → drop (suc i) xs ≡ drop 1 (drop i xs)
-    next [] zero = refl
-    next [] (suc i) = refl
-    next (x ∷ xs) zero = refl
-    next (x ∷ xs) (suc i) = next xs i
+rest-still ans before i a same = drop-set-lt (i + 1) ans i a (omega arith) ∙ drop_more_same ans before i same
 
 -- ---- the life
 

@@ -1,4 +1,5 @@
 pub mod Books
 pub mod Lives
 pub mod Laws
+pub mod Answers
 pub mod Replays

@@ -13,8 +13,8 @@ use Rattle.lives.specs.declared.any_volume.AnyVolume.{AnyVolume}
 use Rattle.lives.specs.declared.any_volume.AnyVolume.TheVariants.{Down, Up}
 use Rattle.lives.specs.declared.call.Call.{Call}
 use Rattle.lives.specs.declared.call.Call.TheVariants.{Run, Force, Flush, Trim, Stop, Mount}
-use Rattle.lives.specs.declared.answer.Answer.{Answer}
-use Rattle.lives.specs.declared.answer.Answer.TheVariants.{OutOfTurn, Done, Refused}
+use Rattle.lives.specs.declared.answer.Refused.TheVariants.{OutOfTurn}
+use Rattle.lives.specs.Answers.{Answer, written_as}
 use Rattle.lives.specs.Books.{Event}
 use Rattle.lives.specs.Books.Event.{run, force, flush, trim, stop, mount}
 use Rattle.lives.specs.Lives.{State, Steps, Life}
@@ -67,14 +67,9 @@ abbrev pub reported : Result ℕ Fault → Result ℕ Report
 reported (Ok n) = Ok n
 reported (Err f) = Err (report f)
 
--- the same answer as it is written down
-abbrev pub written_as : Result ℕ Fault → Answer
-written_as (Ok n) = Done n
-written_as (Err f) = Refused f
-
 -- one call is made of a volume in state s and answered: out of turn where the state does not take it, else as one call of a life
 pub data Plays (k : Meaning) : State → Call → Answer → List Event → State → Type 0 where
-  out_of_turn : {s : State} {c : Call} → takes s c ≡ false → Plays k s c OutOfTurn [] s
+  out_of_turn : {s : State} {c : Call} → takes s c ≡ false → Plays k s c (Err OutOfTurn) [] s
   in_turn : {s s' : State} {c : Call} (a : Result ℕ Fault) (fate : Fate) → takes s c ≡ true → Steps k s (event_of c (reported a) fate) s'
       → Plays k s c (written_as a) (event_of c (reported a) fate ∷ []) s'
 

@@ -9,7 +9,7 @@ mod law;
 mod playing;
 mod replaying;
 
-pub use answer::Answer;
+pub use answer::{Answer, Refused};
 pub use any_volume::AnyVolume;
 pub use call::Call;
 pub use law::law_holds;

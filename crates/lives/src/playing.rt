@@ -6,9 +6,10 @@ ghost use Rattle.lives.specs.Books.{Event};
 ghost use Rattle.lives.specs.Books.Event.{run, force, flush, trim, stop, mount};
 ghost use Rattle.lives.specs.Lives.{Steps};
 ghost use Rattle.lives.specs.Lives.State.{down, up};
-ghost use Rattle.lives.specs.Replays.{state_of, reported, written_as, Plays};
+ghost use Rattle.lives.specs.Answers.{written_as};
+ghost use Rattle.lives.specs.Replays.{state_of, reported, Plays};
 
-use crate::answer::Answer;
+use crate::answer::{Answer, Refused};
 use crate::any_volume::AnyVolume;
 use crate::call::Call;
 use faults::Fault;
@@ -21,10 +22,7 @@ use volume::{Down, Up};
 fn written(answer: Result<u32, Fault>) -> Answer
     ensures { result ≡ written_as answer }
 {
-    match answer {
-        Ok(n) => Answer::Done(n as u64),
-        Err(fault) => Answer::Refused(fault),
-    }
+    Ok(u64::from(answer?))
 }
 
 // The calls of an up volume that leave it up, each as a call of a life.
@@ -87,29 +85,18 @@ fn play_up<K: Kind, L: Medium, S: PageStore>(
     ensures { (new : List Event) × Plays K.Kind.meaning (up (up_model L.Medium.model S.PageStore.meaning S.PageStore.plan volume)) call.entry result.1 new (state_of L.Medium.model S.PageStore.meaning S.PageStore.plan result.0) }
 {
     let mut volume = volume;
-    match call {
-        Call::Run(body) => {
-            let answer = run(&mut volume, body);
-            (AnyVolume::Up(volume), written(answer))
-        }
-        Call::Force => {
-            let answer = force(&mut volume);
-            (AnyVolume::Up(volume), written(answer))
-        }
-        Call::Flush(page) => {
-            let answer = flush(&mut volume, page);
-            (AnyVolume::Up(volume), written(answer))
-        }
-        Call::Trim => {
-            let answer = trim(&mut volume);
-            (AnyVolume::Up(volume), written(answer))
-        }
+    let answer = match call {
+        Call::Run(body) => run(&mut volume, body),
+        Call::Force => force(&mut volume),
+        Call::Flush(page) => flush(&mut volume, page),
+        Call::Trim => trim(&mut volume),
         Call::Stop => {
             let (volume, dropped) = stop(volume);
-            (AnyVolume::Down(volume), Answer::Done(dropped))
+            return (AnyVolume::Down(volume), Ok(dropped));
         }
-        Call::Mount => (AnyVolume::Up(volume), Answer::OutOfTurn),
-    }
+        Call::Mount => return (AnyVolume::Up(volume), Err(Refused::OutOfTurn)),
+    };
+    (AnyVolume::Up(volume), written(answer))
 }
 
 // A call of a volume that is down.
@@ -124,7 +111,7 @@ fn play_down<K: Kind, L: Medium, S: PageStore>(
             let (volume, answer) = mount(volume);
             (AnyVolume::Up(volume), written(answer))
         }
-        _ => (AnyVolume::Down(volume), Answer::OutOfTurn),
+        _ => (AnyVolume::Down(volume), Err(Refused::OutOfTurn)),
     }
 }
 

@@ -13,14 +13,6 @@ use media::Medium;
 use stores::PageStore;
 use volume::Down;
 
-// The i-th call of a list.
-fn call_at<'a>(calls: &[Call<'a>], i: usize) -> Call<'a>
-    requires { i < length calls.now }
-    ensures { slice_index_or calls.now i result ≡ result }
-{
-    calls[i]
-}
-
 // Makes the calls of a list, in order, and writes each answer to its place, as long as there are places.
 fn play_all<K: Kind, L: Medium, S: PageStore>(
     volume: AnyVolume<K, L, S>,
@@ -33,8 +25,8 @@ fn play_all<K: Kind, L: Medium, S: PageStore>(
 {
     let n = calls.len().min(answers.len());
     let mut volume = volume;
-    for i in 0..n {
-        let (next, answer) = play(volume, call_at(calls, i));
+    for (i, call) in calls[..n].iter().enumerate() {
+        let (next, answer) = play(volume, *call);
         volume = next;
         answers[i] = answer;
     }
