@@ -2,6 +2,8 @@
 use crate::lives::{Course, live};
 use crate::plan::Plan;
 use media::{Left, MemoryMedium, Partition};
+use std::alloc::{AllocError, Global};
+use std::fmt;
 use stores::{JournalStore, ShadowStore};
 use volume::Down;
 
@@ -15,10 +17,28 @@ pub enum Store {
     Shadow,
 }
 
-#[derive(Clone, Copy)]
+impl fmt::Display for Store {
+    fn fmt<W: fmt::Write>(&self, f: &mut fmt::Formatter<W>) -> fmt::Result {
+        f.write_str(match self {
+            Store::Journal => "journal store",
+            Store::Shadow => "shadow store",
+        })
+    }
+}
+
+#[derive(Clone, Copy, PartialEq, Eq)]
 pub enum Chip {
     Log,
     Pages,
+}
+
+impl fmt::Display for Chip {
+    fn fmt<W: fmt::Write>(&self, f: &mut fmt::Formatter<W>) -> fmt::Result {
+        f.write_str(match self {
+            Chip::Log => "log",
+            Chip::Pages => "store",
+        })
+    }
 }
 
 // The power fails on a chip after so many writes, and leaves the block of the next old or new.
@@ -26,52 +46,46 @@ pub enum Chip {
 pub struct Cut {
     pub chip: Chip,
     pub write: u64,
-    pub new: bool,
+    pub left: Left,
 }
 
-// A partition of a chip, with a fuse if the chip is to be cut.
-fn part<'a>(bytes: &'a mut [u8], fuse: Option<Cut>) -> Partition<MemoryMedium<'a>> {
+impl fmt::Display for Cut {
+    fn fmt<W: fmt::Write>(&self, f: &mut fmt::Formatter<W>) -> fmt::Result {
+        let Cut { chip, .. } = self;
+        let write = self.write.saturating_add(1);
+        // Kept: Left is of media, so an impl of Display for it cannot stand here.
+        let left = match self.left {
+            Left::Old => "old",
+            Left::New => "new",
+        };
+        write!(f, "{chip} chip cut at write {write}, left {left}")
+    }
+}
+
+// A partition of a chip, with a fuse if it is the one to be cut.
+fn part<'a>(bytes: &'a mut [u8], chip: Chip, cut: Option<Cut>) -> Partition<MemoryMedium<'a>> {
     let mut medium = MemoryMedium::new(bytes);
-    if let Some(cut) = fuse {
-        let left = if cut.new { Left::New } else { Left::Old };
-        medium.set_fuse(cut.write, left);
+    if let Some(cut) = cut.filter(|cut| cut.chip == chip) {
+        medium.set_fuse(cut.write, cut.left);
     }
     Partition::new(medium, 1, BLOCKS)
 }
 
-// The fuses of the two chips.
-fn fuses(cut: Option<Cut>) -> (Option<Cut>, Option<Cut>) {
-    match cut {
-        Some(
-            Cut {
-                chip: Chip::Log,
-                ..
-            },
-        ) => (cut, None),
-        _ => (None, cut),
-    }
-}
-
-fn left_new(cut: Option<Cut>) -> bool {
-    match cut {
-        Some(cut) => cut.new,
-        None => false,
-    }
-}
-
 // A life on new chips; none where the power fails in the format.
-pub fn run(store: Store, cut: Option<Cut>, plan: Plan) -> Option<Course> {
+// Kept: a store's type names the borrow of the chip, which is another for each life, so no one closure makes them all.
+pub fn run(
+    heap: Global,
+    store: Store,
+    cut: Option<Cut>,
+    plan: &mut Plan,
+) -> Result<Option<Course>, AllocError> {
     let mut log = [0u8; CHIP];
     let mut pages = [0u8; CHIP];
-    let (of_log, of_pages) = fuses(cut);
-    let log = part(&mut log, of_log);
-    let pages = part(&mut pages, of_pages);
+    let log = part(&mut log, Chip::Log, cut);
+    let pages = part(&mut pages, Chip::Pages, cut);
+    let left = cut.map_or(Left::Old, |cut| cut.left);
     match store {
-        Store::Journal => live(
-            Down::new(log, JournalStore::new(pages)),
-            plan,
-            left_new(cut),
-        ),
-        Store::Shadow => live(Down::new(log, ShadowStore::new(pages)), plan, left_new(cut)),
+        Store::Journal => live(heap, Down::new(log, JournalStore::new(pages)), plan, left),
+        Store::Shadow => live(heap, Down::new(log, ShadowStore::new(pages)), plan, left),
     }
 }

@@ -1,106 +1,111 @@
 // A life: what its calls answer, written down in the book, and what does not agree with it.
 use crate::book::Book;
+use crate::model::Model;
 use crate::plan::Plan;
 use crate::script::Call;
 use faults::Fault;
 use kinds::PageKind;
-use media::Medium;
+use media::{BLOCK, Left, Medium};
+use std::alloc::{AllocError, Global};
+use std::fmt;
 use stores::PageStore;
 use volume::Up;
 
-#[derive(Clone, Copy)]
-pub struct Life {
+// Answers that the book does not expect, mounts that were refused, pages that are not as the book says.
+#[derive(Clone, Copy, PartialEq, Eq)]
+pub struct Trouble {
+    odd: usize,
+    refused: usize,
+    wrong: usize,
+}
+
+impl Trouble {
+    pub const NONE: Trouble = Trouble {
+        odd: 0,
+        refused: 0,
+        wrong: 0,
+    };
+}
+
+impl fmt::Display for Trouble {
+    fn fmt<W: fmt::Write>(&self, f: &mut fmt::Formatter<W>) -> fmt::Result {
+        let Trouble {
+            odd,
+            refused,
+            wrong,
+        } = self;
+        write!(f, "{wrong} pages, {refused} mounts refused, {odd} answers")
+    }
+}
+
+#[derive(Drop)]
+pub struct Life<'a> {
     book: Book,
-    plan: Plan,
-    // whether the dying write leaves its block new
-    new: bool,
+    plan: &'a mut Plan,
+    // what the dying write leaves in its block
+    left: Left,
     // the flushes so far that left a choice, and what this day's have left of the order's number
     turn: usize,
-    left: usize,
-    // answers that the book does not expect, mounts that were refused, pages that are not as the book says
-    odd: u32,
-    refused: u32,
-    wrong: u32,
+    number: usize,
+    trouble: Trouble,
 }
 
 // Whether a page is not as the book says.
-fn differs<L: Medium, S: PageStore>(
-    up: &Up<PageKind, L, S>,
-    model: &crate::model::Model,
-    page: u32,
-) -> bool {
-    let mut image = [0u8; 256];
-    match up.page(page, &mut image) {
-        Ok(()) => !model.same(page as usize, &image),
-        Err(_) => true,
-    }
+fn differs<L: Medium, S: PageStore>(up: &Up<PageKind, L, S>, model: &Model, page: u32) -> bool {
+    let mut image = [0u8; BLOCK];
+    up.page(page, &mut image).is_err() || !model.same(page, &image)
 }
 
-impl Life {
-    pub fn new(plan: Plan, new: bool) -> Life {
+impl<'a> Life<'a> {
+    pub fn new(heap: Global, plan: &'a mut Plan, left: Left) -> Life<'a> {
         Life {
-            book: Book::new(),
+            book: Book::new(heap),
             plan,
-            new,
+            left,
             turn: 0,
-            left: 0,
-            odd: 0,
-            refused: 0,
-            wrong: 0,
+            number: 0,
+            trouble: Trouble::NONE,
         }
     }
 
-    pub fn plan(&self) -> Plan {
-        self.plan
-    }
-
-    // Whether all was as the book says.
-    pub fn good(&self) -> bool {
-        self.odd == 0 && self.refused == 0 && self.wrong == 0
-    }
-
-    // The answers, mounts and pages that were not.
-    pub fn trouble(&self) -> (u32, u32, u32) {
-        (self.odd, self.refused, self.wrong)
+    pub fn trouble(&self) -> Trouble {
+        self.trouble
     }
 
     fn expect(&mut self, good: bool) {
-        if !good {
-            self.odd = self.odd.saturating_add(1);
-        }
+        self.trouble.odd = self.trouble.odd.saturating_add(usize::from(!good));
     }
 
     // Compares all 64 pages with those that the book gives.
     fn compare<L: Medium, S: PageStore>(&mut self, up: &Up<PageKind, L, S>) {
         let model = self.book.pages();
-        for page in 0..64u32 {
-            self.wrong = self.wrong.saturating_add(differs(up, &model, page) as u32);
-        }
+        let wrong = (0..64u32).filter(|page| differs(up, &model, *page)).count();
+        self.trouble.wrong = self.trouble.wrong.saturating_add(wrong);
     }
 
     // A volume was mounted.
     pub fn mounted<L: Medium, S: PageStore>(&mut self, up: &Up<PageKind, L, S>) {
         let kept = self.book.mount();
         self.expect(kept);
-        self.refused = self.refused.saturating_add(up.fault().is_some() as u32);
+        let refused = usize::from(up.fault().is_some());
+        self.trouble.refused = self.trouble.refused.saturating_add(refused);
         self.compare(up);
-        self.left = self.plan.order();
+        self.number = self.plan.order();
     }
 
     // A run was answered; says whether the power failed. So do the others.
-    fn ran(&mut self, body: &'static [u8], fault: u8, answer: Result<u32, Fault>) -> bool {
-        match answer {
-            Ok(number) => {
-                let expected = fault == 0 && number == self.book.next();
-                self.expect(expected);
-                self.book.accept(body);
-                false
-            }
-            Err(refused) => {
-                self.expect(refused.number() == fault);
-                refused.number() == 4
-            }
+    fn ran(
+        &mut self,
+        body: &'static [u8],
+        expected: Result<(), Fault>,
+        answer: Result<u32, Fault>,
+    ) -> Result<bool, AllocError> {
+        let next = self.book.next();
+        self.expect(answer == expected.map(|()| next));
+        if answer.is_ok() {
+            self.book.accept(body)?;
         }
+        Ok(matches!(answer, Err(Fault::PowerLost(_))))
     }
 
     fn forced(&mut self, answer: Result<u32, Fault>) -> bool {
@@ -112,7 +117,7 @@ impl Life {
                 false
             }
             Err(Fault::PowerLost(block)) => {
-                let found = self.book.cut_force(block, self.new);
+                let found = self.book.cut_force(block, self.left);
                 self.expect(found);
                 true
             }
@@ -124,25 +129,26 @@ impl Life {
     }
 
     // A flush or a trim, which change nothing in the book.
-    fn answered(&mut self, fault: u8, answer: Result<u32, Fault>) -> bool {
-        match answer {
-            Ok(_) => {
-                self.expect(fault == 0);
-                false
-            }
-            Err(Fault::PowerLost(_)) => true,
-            Err(refused) => {
-                self.expect(refused.number() == fault);
-                false
-            }
-        }
+    fn answered(&mut self, expected: Result<(), Fault>, answer: Result<u32, Fault>) -> bool {
+        let lost = matches!(answer, Err(Fault::PowerLost(_)));
+        self.expect(lost || answer.map(|_| ()) == expected);
+        lost
     }
 
-    fn flush_ready<L: Medium, S: PageStore>(&mut self, up: &mut Up<PageKind, L, S>) -> bool {
-        let (page, left) = self.plan.choose(up, self.turn, self.left);
+    fn flush_ready<L: Medium, S: PageStore>(
+        &mut self,
+        up: &mut Up<PageKind, L, S>,
+    ) -> Result<bool, AllocError> {
+        let (page, number) = self.plan.choose(up, self.turn, self.number)?;
         self.turn = self.turn.saturating_add(1);
-        self.left = left;
-        self.answered(0, up.flush(page))
+        self.number = number;
+        match page {
+            Some(page) => Ok(self.answered(Ok(()), up.flush(page))),
+            None => {
+                self.expect(false);
+                Ok(false)
+            }
+        }
     }
 
     // Makes a call; says whether the power failed in it.
@@ -150,13 +156,13 @@ impl Life {
         &mut self,
         up: &mut Up<PageKind, L, S>,
         call: Call,
-    ) -> bool {
+    ) -> Result<bool, AllocError> {
         match call {
-            Call::Run(body, fault) => self.ran(body, fault, up.run(body)),
-            Call::Force => self.forced(up.force()),
-            Call::Flush(page, fault) => self.answered(fault, up.flush(page)),
+            Call::Run(body, expected) => self.ran(body, expected, up.run(body)),
+            Call::Force => Ok(self.forced(up.force())),
+            Call::Flush(page, expected) => Ok(self.answered(expected, up.flush(page))),
             Call::FlushReady => self.flush_ready(up),
-            Call::Trim => self.answered(0, up.trim()),
+            Call::Trim => Ok(self.answered(Ok(()), up.trim())),
         }
     }
 }

@@ -1,89 +1,101 @@
 // The whole life of a volume, up to the call in which the power fails, and what comes after.
 use crate::book::FIRST;
-use crate::life::Life;
+use crate::life::{Life, Trouble};
 use crate::plan::Plan;
-use crate::script::{Call, DAYS, LONGEST, calls};
+use crate::script::{AFTER, Call, DAYS};
 use kinds::PageKind;
-use media::Medium;
+use media::{Left, Medium};
+use std::alloc::{AllocError, Global};
 use stores::PageStore;
 use volume::{Down, Up};
 
-// How a life went.
-#[derive(Drop)]
-pub struct Course {
-    // the call in which the power failed, the days' calls counted 32 to a day
-    pub call: Option<usize>,
-    // how many records were redone by the mount after it
-    pub redone: u32,
-    pub life: Life,
+// A call of a day, both counted from 0.
+#[derive(Clone, Copy, PartialEq, Eq)]
+pub struct Place {
+    pub day: usize,
+    pub call: usize,
 }
 
-// The calls after a recovery: page 30 is touched by no other.
-const AFTER: [Call; 5] = [
-    Call::Run(&[1, 41, 7, 1, 2, 3], 0),
-    Call::Run(&[2, 30, 200], 0),
-    Call::Force,
-    Call::Flush(30, 0),
-    Call::Trim,
-];
+// How a life went.
+#[derive(Clone, Copy)]
+pub struct Course {
+    // the call in which the power failed
+    pub died: Option<Place>,
+    // how many records were redone by the mount after it
+    pub redone: u32,
+    pub trouble: Trouble,
+}
+
+impl Course {
+    // Whether all was as the book says.
+    pub fn is_good(&self) -> bool {
+        self.trouble == Trouble::NONE
+    }
+}
 
 // Makes calls up to the one in which the power fails.
-fn day<L: Medium, S: PageStore>(
+fn make_all<L: Medium, S: PageStore>(
     up: &mut Up<PageKind, L, S>,
-    script: &'static [Call],
+    script: &[Call],
     life: &mut Life,
-) -> Option<usize> {
+) -> Result<Option<usize>, AllocError> {
     for (i, call) in script.iter().enumerate() {
-        if life.make(up, *call) {
-            return Some(i);
+        if life.make(up, *call)? {
+            return Ok(Some(i));
         }
     }
-    None
+    Ok(None)
 }
 
 // Mounts, makes the calls of one day and stops.
 fn one_day<L: Medium + Drop, S: PageStore + Drop>(
     down: Down<PageKind, L, S>,
-    script: &'static [Call],
+    script: &[Call],
     life: &mut Life,
-) -> (Down<PageKind, L, S>, u32, Option<usize>) {
+) -> Result<(Down<PageKind, L, S>, u32, Option<usize>), AllocError> {
     let (mut up, redone) = down.mount();
     life.mounted(&up);
-    let died = day(&mut up, script, life);
+    let died = make_all(&mut up, script, life)?;
     let (down, _) = up.stop();
-    (down, redone, died)
+    Ok((down, redone, died))
 }
 
 // All days, up to the call in which the power fails.
 fn days<L: Medium + Drop, S: PageStore + Drop>(
     down: Down<PageKind, L, S>,
     life: &mut Life,
-) -> (Down<PageKind, L, S>, Option<usize>) {
+) -> Result<(Down<PageKind, L, S>, Option<Place>), AllocError> {
     let mut down = down;
-    for d in 0..DAYS {
-        let (next, _, died) = one_day(down, calls(d), life);
+    for (day, script) in DAYS.iter().enumerate() {
+        let (next, _, died) = one_day(down, script, life)?;
         down = next;
-        if let Some(i) = died {
-            return (down, Some(i.saturating_add(d * LONGEST)));
+        if let Some(call) = died {
+            return Ok((down, Some(Place { day, call })));
         }
     }
-    (down, None)
+    Ok((down, None))
 }
 
 // A life from the format on; none where the power fails in the format.
 pub fn live<L: Medium + Drop, S: PageStore + Drop>(
+    heap: Global,
     down: Down<PageKind, L, S>,
-    plan: Plan,
-    new: bool,
-) -> Option<Course> {
+    plan: &mut Plan,
+    left: Left,
+) -> Result<Option<Course>, AllocError> {
     let mut down = down;
     if down.format(FIRST).is_err() {
-        return None;
+        return Ok(None);
     }
-    let mut life = Life::new(plan, new);
-    let (down, call) = days(down, &mut life);
-    let (down, redone, _) = one_day(down, &AFTER, &mut life);
+    let mut life = Life::new(heap, plan, left);
+    let (down, died) = days(down, &mut life)?;
+    let (down, redone, _) = one_day(down, &AFTER, &mut life)?;
     let (up, _) = down.mount();
     life.mounted(&up);
-    Some(Course { call, redone, life })
+    let trouble = life.trouble();
+    Ok(Some(Course {
+        died,
+        redone,
+        trouble,
+    }))
 }

@@ -13,9 +13,11 @@ mod tally;
 
 use chips::{Chip, Cut, Store};
 use lives::Course;
+use media::Left;
 use plan::Plan;
-use std::io;
-use tally::Tally;
+use std::alloc::AllocError;
+use std::{fmt, io};
+use tally::{Seen, Tally, recovered};
 
 // The orders of flushes: enough for every order of the groups that may go on each day.
 const ORDERS: usize = 6;
@@ -23,128 +25,126 @@ const ORDERS: usize = 6;
 // More writes than a life has on a chip.
 const MOST_WRITES: u64 = 512;
 
-// How many writes the format makes on a chip: so many can pass before one dies outside it.
-fn format_writes(store: Store, chip: Chip) -> u64 {
-    for write in 0..MOST_WRITES {
-        let cut = Cut {
-            chip,
-            write,
-            new: false,
-        };
-        if chips::run(store, Some(cut), Plan::new(0)).is_some() {
-            return write;
+// The sweep of a store.
+#[derive(Drop)]
+struct Sweep<'a> {
+    rt: &'a HostRuntime,
+    store: Store,
+    tally: Tally,
+}
+
+impl<'a> Sweep<'a> {
+    fn new(rt: &'a HostRuntime, store: Store) -> Sweep<'a> {
+        Sweep {
+            rt,
+            store,
+            tally: Tally::new(rt.alloc()),
         }
     }
-    MOST_WRITES
-}
 
-// Looks at a life that is over.
-fn judge(rt: &HostRuntime, cut: Option<Cut>, course: &Course, tally: &mut Tally) -> io::Result<()> {
-    if course.life.good() {
-        return Ok(());
+    // A life on new chips; none where the power fails in the format.
+    fn live(&self, cut: Option<Cut>, plan: &mut Plan) -> Result<Option<Course>, AllocError> {
+        chips::run(self.rt.alloc(), self.store, cut, plan)
     }
-    tally.blame();
-    report::trouble(rt, cut, course)
-}
 
-// One cut; says whether the write was still of the life.
-fn one_cut(
-    rt: &HostRuntime,
-    store: Store,
-    cut: Cut,
-    plan: Plan,
-    tally: &mut Tally,
-) -> io::Result<bool> {
-    let Some(course) = chips::run(store, Some(cut), plan) else {
-        tally.blame();
-        report::say(rt, Some(cut), "the format died")?;
-        return Ok(true);
-    };
-    let Some(call) = course.call else {
-        return Ok(false);
-    };
-    judge(rt, Some(cut), &course, tally)?;
-    tally.enter(call, &cut, &course);
-    Ok(true)
-}
-
-// The same write left old and left new; says whether it was still of the life.
-fn both_cuts(
-    rt: &HostRuntime,
-    store: Store,
-    from: (Chip, u64),
-    plan: Plan,
-    tally: &mut Tally,
-) -> io::Result<bool> {
-    let (chip, write) = from;
-    for new in [false, true] {
-        if !one_cut(rt, store, Cut { chip, write, new }, plan, tally)? {
-            return Ok(false);
+    // How many writes the format makes on a chip: so many can pass before one dies outside it.
+    fn format_writes(&self, chip: Chip) -> Result<u64, AllocError> {
+        for write in 0..MOST_WRITES {
+            let left = Left::Old;
+            let mut plan = Plan::new(self.rt.alloc(), 0);
+            let cut = Cut { chip, write, left };
+            if self.live(Some(cut), &mut plan)?.is_some() {
+                return Ok(write);
+            }
         }
+        Ok(MOST_WRITES)
     }
-    Ok(true)
-}
 
-// Every write of a chip from a write on.
-fn chip_cuts(
-    rt: &HostRuntime,
-    store: Store,
-    from: (Chip, u64),
-    plan: Plan,
-    tally: &mut Tally,
-) -> io::Result<()> {
-    let (chip, start) = from;
-    for i in 0..MOST_WRITES {
-        if !both_cuts(rt, store, (chip, start.saturating_add(i)), plan, tally)? {
+    // Enters that something was wrong.
+    fn blame<T: fmt::Display>(&mut self, cut: Option<Cut>, what: &T) -> io::Result<()> {
+        self.tally.blame();
+        report::say(self.rt, cut, what)
+    }
+
+    // Looks at a life that is over.
+    fn judge(&mut self, cut: Option<Cut>, course: &Course) -> io::Result<()> {
+        if course.is_good() {
             return Ok(());
         }
+        self.blame(cut, &course.trouble)
     }
-    tally.blame();
-    report::say(rt, None, "the life has more writes than were cut")
-}
 
-// The life without a cut, which makes the choices of an order; then every cut of it.
-fn one_order(
-    rt: &HostRuntime,
-    store: Store,
-    writes: (u64, u64),
-    order: usize,
-    tally: &mut Tally,
-) -> io::Result<()> {
-    let Some(course) = chips::run(store, None, Plan::new(order)) else {
-        tally.blame();
-        return report::say(rt, None, "the format was refused");
-    };
-    judge(rt, None, &course, tally)?;
-    let mut plan = course.life.plan();
-    plan.settle();
-    report::order(rt, &plan)?;
-    chip_cuts(rt, store, (Chip::Log, writes.0), plan, tally)?;
-    chip_cuts(rt, store, (Chip::Pages, writes.1), plan, tally)
-}
-
-// All orders on one store.
-fn sweep(rt: &HostRuntime, store: Store) -> io::Result<Tally> {
-    let name = report::store_name(store);
-    let log = format_writes(store, Chip::Log);
-    let pages = format_writes(store, Chip::Pages);
-    println!(rt; "{name}, behind the format's {log} writes of the log and {pages} of the store")?;
-    let mut tally = Tally::new();
-    for order in 0..ORDERS {
-        one_order(rt, store, (log, pages), order, &mut tally)?;
+    // One cut; says whether the write was still of the life.
+    fn one_cut(&mut self, cut: Cut, plan: &mut Plan) -> io::Result<bool> {
+        let Some(course) = self.live(Some(cut), plan)? else {
+            self.blame(Some(cut), &"the format died")?;
+            return Ok(true);
+        };
+        let Some(place) = course.died else {
+            return Ok(false);
+        };
+        self.judge(Some(cut), &course)?;
+        let (redone, good) = (course.redone, course.is_good());
+        self.tally.seen.push(Seen {
+            place,
+            cut,
+            redone,
+            good,
+        })?;
+        Ok(true)
     }
-    report::table(rt, &tally)?;
-    println!(rt; "")?;
-    Ok(tally)
+
+    // Every write of a chip from a write on, left old and left new.
+    fn chip_cuts(&mut self, chip: Chip, start: u64, plan: &mut Plan) -> io::Result<()> {
+        for write in start..start.saturating_add(MOST_WRITES) {
+            for left in [Left::Old, Left::New] {
+                if !self.one_cut(Cut { chip, write, left }, plan)? {
+                    return Ok(());
+                }
+            }
+        }
+        self.blame(None, &"the life has more writes than were cut")
+    }
+
+    // The life without a cut, which makes the choices of an order; then every cut of it.
+    fn one_order(&mut self, log: u64, pages: u64, order: usize) -> io::Result<()> {
+        let mut plan = Plan::new(self.rt.alloc(), order);
+        let Some(course) = self.live(None, &mut plan)? else {
+            return self.blame(None, &"the format was refused");
+        };
+        self.judge(None, &course)?;
+        report::order(self.rt, &plan)?;
+        self.chip_cuts(Chip::Log, log, &mut plan)?;
+        self.chip_cuts(Chip::Pages, pages, &mut plan)
+    }
+
+    // All orders.
+    fn all_orders(&mut self) -> io::Result<()> {
+        let (rt, store) = (self.rt, self.store);
+        let log = self.format_writes(Chip::Log)?;
+        let pages = self.format_writes(Chip::Pages)?;
+        println!(rt;
+            "{store}, behind the format's {log} writes of the log and {pages} of the store"
+        )?;
+        for order in 0..ORDERS {
+            self.one_order(log, pages, order)?;
+        }
+        report::table(rt, &self.tally)?;
+        println!(rt; "")
+    }
 }
 
 fn main(rt: HostRuntime) -> io::Result<()> {
     println!(rt; "power cut at each block write of a life of three days, left old and left new")?;
     println!(rt; "")?;
-    let journal = sweep(&rt, Store::Journal)?;
-    let shadow = sweep(&rt, Store::Shadow)?;
-    let cuts = journal.cuts.saturating_add(shadow.cuts);
-    let recovered = journal.recovered.saturating_add(shadow.recovered);
-    let wrong = journal.wrong.saturating_add(shadow.wrong);
+    let mut all = Tally::new(rt.alloc());
+    for store in [Store::Journal, Store::Shadow] {
+        let mut sweep = Sweep::new(&rt, store);
+        sweep.all_orders()?;
+        all.add(&sweep.tally)?;
+    }
+    let cuts = all.seen.len();
+    let recovered = recovered(&all.seen);
+    let wrong = all.wrong;
     println!(rt; "{cuts} cuts, {recovered} recoveries, {wrong} wrong")
 }

@@ -3,28 +3,24 @@ use sets::u32_at;
 
 const CONTENTS: usize = 224;
 
-#[derive(Drop)]
-pub struct Model {
-    numbers: [u32; 64],
-    contents: [[u8; CONTENTS]; 64],
+type Contents = [u8; CONTENTS];
+
+#[derive(Clone, Copy)]
+struct Page {
+    number: u32,
+    contents: Contents,
 }
 
-// A byte of the contents, once other bytes are laid over them.
-fn patched_byte(old: u8, at: usize, offset: u8, bytes: &[u8]) -> u8 {
-    let Some(i) = at.checked_sub(offset as usize) else {
-        return old;
-    };
-    match bytes.get(i) {
-        Some(byte) => *byte,
-        None => old,
-    }
+#[derive(Drop)]
+pub struct Model {
+    pages: [Page; 64],
 }
 
 // Contents with bytes laid over them.
-fn patched(old: [u8; CONTENTS], offset: u8, bytes: &[u8]) -> [u8; CONTENTS] {
+fn patched(old: Contents, offset: u8, bytes: &[u8]) -> Contents {
     let mut new = old;
-    for (at, byte) in new.iter_mut().enumerate() {
-        *byte = patched_byte(*byte, at, offset, bytes);
+    for (place, byte) in new.iter_mut().skip(usize::from(offset)).zip(bytes) {
+        *place = *byte;
     }
     new
 }
@@ -32,40 +28,33 @@ fn patched(old: [u8; CONTENTS], offset: u8, bytes: &[u8]) -> [u8; CONTENTS] {
 impl Model {
     // Blank pages with number 0.
     pub fn blank() -> Model {
-        Model {
-            numbers: [0; 64],
-            contents: [[0; CONTENTS]; 64],
-        }
+        let blank = Page {
+            number: 0,
+            contents: [0; CONTENTS],
+        };
+        Model { pages: [blank; 64] }
     }
 
-    fn held(&self, page: u8) -> [u8; CONTENTS] {
-        match self.contents.get(page as usize) {
-            Some(contents) => *contents,
-            None => [0; CONTENTS],
-        }
+    fn held(&self, page: u8) -> Contents {
+        self.pages
+            .get(usize::from(page))
+            .map_or([0; CONTENTS], |page| page.contents)
     }
 
-    fn put(&mut self, page: u8, number: u32, contents: [u8; CONTENTS]) {
-        if let Some(place) = self.numbers.get_mut(page as usize) {
-            *place = number;
-        }
-        if let Some(place) = self.contents.get_mut(page as usize) {
-            *place = contents;
+    fn put(&mut self, page: u8, number: u32, contents: Contents) {
+        if let Some(place) = self.pages.get_mut(usize::from(page)) {
+            *place = Page { number, contents };
         }
     }
 
     fn copy(&mut self, from: u8, to: u8, count: u8, number: u32) {
-        for i in 0..4u8 {
-            if i < count {
-                let contents = self.held(from.saturating_add(i));
-                self.put(to.saturating_add(i), number, contents);
-            }
+        for (from, to) in (from..64).zip(to..64).take(usize::from(count)) {
+            self.put(to, number, self.held(from));
         }
     }
 
     fn swap(&mut self, a: u8, b: u8, number: u32) {
-        let in_a = self.held(a);
-        let in_b = self.held(b);
+        let (in_a, in_b) = (self.held(a), self.held(b));
         self.put(a, number, in_b);
         self.put(b, number, in_a);
     }
@@ -84,18 +73,10 @@ impl Model {
         }
     }
 
-    fn same_contents(&self, page: usize, image: &[u8; 256]) -> bool {
-        match self.contents.get(page) {
-            Some(contents) => image[4..228] == contents[0..224],
-            None => false,
-        }
-    }
-
     // Whether an image has the page's number and contents.
-    pub fn same(&self, page: usize, image: &[u8; 256]) -> bool {
-        match self.numbers.get(page) {
-            Some(number) => *number == u32_at(image, 0) && self.same_contents(page, image),
-            None => false,
-        }
+    pub fn same(&self, page: u32, image: &[u8; 256]) -> bool {
+        self.pages.get(page as usize).is_some_and(|page| {
+            page.number == u32_at(image, 0) && image[4..228] == page.contents[..]
+        })
     }
 }

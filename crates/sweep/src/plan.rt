@@ -3,91 +3,66 @@ use crate::script::LOWEST;
 use kinds::PageKind;
 use media::Medium;
 use sets::lowest;
+use std::alloc::{AllocError, Global};
 use stores::PageStore;
 use volume::Up;
 
-const MOST: usize = 16;
-
-// The choices of one order, once a life without a cut has made them.
-#[derive(Clone, Copy)]
+// The choices of one order, as far as a life has made them: the lowest page of each group, if there was one.
+#[derive(Drop)]
 pub struct Plan {
     order: usize,
-    pages: [u32; MOST],
-    known: bool,
+    choices: Vec<Option<u32>>,
 }
 
 // Whether a page is the lowest of a group that has none directly before it.
-fn ready<L: Medium, S: PageStore>(up: &Up<PageKind, L, S>, page: u32) -> bool {
-    match up.group(page) {
-        Ok((group, before)) => group != 0 && before == 0 && lowest(group) == page,
-        Err(_) => false,
-    }
+fn is_ready<L: Medium, S: PageStore>(up: &Up<PageKind, L, S>, page: u32) -> bool {
+    up.group(page).is_ok_and(|(group, before)| group != 0 && before == 0 && lowest(group) == page)
 }
 
 // How many groups may go.
 fn count<L: Medium, S: PageStore>(up: &Up<PageKind, L, S>) -> usize {
-    let mut n = 0usize;
-    for page in LOWEST {
-        n = n.saturating_add(ready(up, page) as usize);
-    }
-    n
+    LOWEST.iter().filter(|page| is_ready(up, **page)).count()
 }
 
-// The lowest page of the n-th of them; 64 if there are not so many.
-fn nth<L: Medium, S: PageStore>(up: &Up<PageKind, L, S>, n: usize) -> u32 {
-    let mut passed = 0usize;
-    for page in LOWEST {
-        if ready(up, page) {
-            if passed == n {
-                return page;
-            }
-            passed = passed.saturating_add(1);
-        }
-    }
-    64
+// The lowest page of the n-th of them.
+fn nth<L: Medium, S: PageStore>(up: &Up<PageKind, L, S>, n: usize) -> Option<u32> {
+    LOWEST
+        .iter()
+        .copied()
+        .filter(|page| is_ready(up, *page))
+        .nth(n)
 }
 
 impl Plan {
-    pub fn new(order: usize) -> Plan {
+    pub fn new(heap: Global, order: usize) -> Plan {
         Plan {
             order,
-            pages: [64; MOST],
-            known: false,
+            choices: Vec::new(heap),
         }
-    }
-
-    // All choices are made.
-    pub fn settle(&mut self) {
-        self.known = true;
     }
 
     pub fn order(&self) -> usize {
         self.order
     }
 
-    // The choice at a turn; 64 if there was none.
-    pub fn page(&self, turn: usize) -> u32 {
-        match self.pages.get(turn) {
-            Some(page) => *page,
-            None => 64,
-        }
+    pub fn choices(&self) -> &[Option<u32>] {
+        &self.choices
     }
 
     // The page to flush, where `left` is what the choices of the day so far have left of the order's number; and what is left of it now.
+    // A choice that an earlier life has made stays.
     pub fn choose<L: Medium, S: PageStore>(
         &mut self,
         up: &Up<PageKind, L, S>,
         turn: usize,
         left: usize,
-    ) -> (u32, usize) {
-        if self.known {
-            return (self.page(turn), left);
+    ) -> Result<(Option<u32>, usize), AllocError> {
+        if let Some(page) = self.choices.get(turn) {
+            return Ok((*page, left));
         }
         let n = count(up).max(1);
         let page = nth(up, left % n);
-        if let Some(place) = self.pages.get_mut(turn) {
-            *place = page;
-        }
-        (page, left / n)
+        self.choices.push(page)?;
+        Ok((page, left / n))
     }
 }
