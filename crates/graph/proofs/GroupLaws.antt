@@ -23,16 +23,6 @@ row-past rows a b n l = ap (λ s. has s b) (get_or_past rows a 0 (omega arith)) 
 pub row-within : (rows : List ℕ) (a b : ℕ) → length rows ≡ 64 → leads rows a b ≡ true → a < 64
 row-within rows a b n e = elim (cases_lt a 64) [ inl l ↦ l | inr g ↦ absurd (both_ways (leads rows a b) (row-past rows a b n g) e) ]
 
--- rows that meet a set
-abbrev pub Source : List ℕ → ℕ → ℕ → ℕ → Type 0
-Source rows set q p = (q ≡ p) × Meet (row rows p) set
-
-pub sources_all : (rows : List ℕ) (set s : ℕ) → length rows ≡ 64 → Pages s (λ q. SomeBelow 64 (Source rows set q)) → Pages s (λ q. Meet (row rows q) set)
-sources_all rows set s n pages q = (
-  λ e. let x = (pages q).0 e in subst (λ (p : ℕ). Meet (row rows p) set) (sym x.2.0) x.2.1,
-  λ m. (pages q).1 (q, row-within rows q m.0 n m.1, (refl, m)),
-)
-
 -- the group of a page, by a table of what reaches what
 pub group-pages : (reach : List ℕ) (page here one into r : ℕ) → length reach ≡ 64 → here ≡ row reach page → SetOf one (λ q. eqb q page && ltb page 64)
     → Pages into (λ q. Meet (row reach q) one) → SetOf r (λ q. has here q && has into q) → SetOf r (mutual_reach reach page)
@@ -63,5 +53,14 @@ leads-lowest reach g p is-group l leads =
     let ge = leads.1 (lowest g) (omega arith) (sym (is-group (lowest g)) ∙ low.1) in
     omega arith
 
-pub leads-within : (reach : List ℕ) (p : ℕ) → length reach ≡ 64 → LeadsGroup reach p → p < 64
-leads-within reach p n is = row-within reach p p n (and_parts (leads reach p p) (leads reach p p) is.0).0
+-- the pages that lead their groups, by that test
+pub leaders-all : (reach : List ℕ) (s : ℕ) → ((q : ℕ) → has s q ≡ true → q < 64)
+    → ((q : ℕ) → q < 64 → (g : ℕ) × SetOf g (mutual_reach reach q) × (has s q ≡ eqb (lowest g) q))
+    → Pages s (λ q. SomeBelow 64 (λ p. (q ≡ p) × LeadsGroup reach p))
+leaders-all reach s within tested q = (
+  λ e. let l = within q e in
+      let t = tested q l in
+      (q, l, (refl, lowest-leads reach t.0 q t.1 l (eqb-true (lowest t.0) q (sym t.2 ∙ e)))),
+  λ x. let t = tested x.0 x.1 in
+      subst (λ (p : ℕ). has s p ≡ true) (sym x.2.0) (t.2 ∙ eq-eqb (lowest t.0) x.0 (leads-lowest reach t.0 x.0 t.1 x.1 x.2.1)),
+)

@@ -1,5 +1,5 @@
 -- Folds that gather pages, and loops that renew a table row by row.
-use Rattle.std.proofs.Common.{◌≡◌, ℕ, ◌+◌, ◌^◌, ◌<◌, ◌≤◌, true, ◌&&◌, ◌||◌, eqb, ltb, List, [], ◌∷◌, ◌++◌, Option, zero-add, Decides, length, get_or, sym, refl, ap, ◌∙◌, subst, inl, inr, arith}
+use Rattle.std.proofs.Common.{◌≡◌, ℕ, ◌+◌, ◌^◌, ◌<◌, ◌≤◌, true, ◌||◌, List, [], ◌∷◌, ◌++◌, Option, zero-add, Decides, length, get_or, sym, refl, ap, ◌∙◌, subst, inl, inr, arith}
 use denote.Param.Members.{Mut}
 use Rattle.std.specs.Fn.{Called}
 use Rattle.std.specs.declared.ops.Range.{Range}
@@ -15,7 +15,7 @@ use Rattle.std.proofs.lemmas.Fn.{fold_over}
 use Rattle.std.proofs.lemmas.Iterator.{YieldsList, YieldsList-from_slice, YieldsList-from_range}
 use Rattle.std.proofs.lemmas.List.{length-append}
 use Rattle.std.proofs.lemmas.List.FromFn.{get_or-range_with_len}
-use Rattle.std.proofs.lemmas.Bool.{both_ways, cases_Bool, cases_lt, or_cases, or_left, or_right, and_parts, and_from, eqb-true, eq-eqb, lt-ltb, ltb-true}
+use Rattle.std.proofs.lemmas.Bool.{both_ways, cases_Bool, cases_lt, or_cases, or_left, or_right}
 use Rattle.sets.specs.Sets.{has, SetOf}
 use Rattle.sets.proofs.SetLaws.{has-none, none_only}
 use Rattle.graph.specs.Ops.{Pages}
@@ -88,12 +88,9 @@ pub record Renewed (R : ℕ → ℕ → ℕ → Type 0) (old : List ℕ) (i : �
   pub done : (a : ℕ) → a < i → R a (row old a) (row new a)
   pub left : (a : ℕ) → i ≤ a → row new a ≡ row old a
 
--- one page, if P holds, which holds of none but the pages
-pub page_where : (P : Type 0) (s p : ℕ) → SetOf s (λ q. eqb q p && ltb p 64) → (p < 64 → P) → (P → p < 64) → Pages s (λ q. (q ≡ p) × P)
-page_where P s p is_one holds within q = (
-  λ e. let u = and_parts (eqb q p) (ltb p 64) (sym (is_one q) ∙ e) in (eqb-true q p u.0, holds (ltb-true p 64 u.1)),
-  λ y. is_one q ∙ and_from (eqb q p) (ltb p 64) (eq-eqb q p y.0) (lt-ltb p 64 (within y.1)),
-)
+-- a set that is tested at the pages, by what holds of none but pages
+pub pages-tested : (P : ℕ → Type 0) (s : ℕ) → ((q : ℕ) → has s q ≡ true → q < 64) → ((q : ℕ) → P q → q < 64) → ((q : ℕ) → q < 64 → Decides (has s q) (P q)) → Pages s P
+pages-tested P s within only tested q = (λ e. (tested q (within q e)).0 e, λ x. (tested q (only q x)).1 x)
 
 -- where nothing holds of any page, the set is empty
 pub pages-empty : (P : ℕ → Type 0) (s : ℕ) → s < 2 ^ 64 → Pages s P → ((q : ℕ) → P q → ⊥) → s ≡ 0

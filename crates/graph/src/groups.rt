@@ -8,7 +8,7 @@ ghost use Rattle.graph.specs.Rows.{row as row_of, SomeBelow, mutual_reach, InGro
 use crate::arrows::arrows;
 use crate::closure::closed;
 use crate::op::Op;
-use crate::rows::row;
+use crate::rows::{pages_where, row};
 
 // The dirty pages.
 pub fn dirty(ops: &[Op]) -> u64
@@ -17,22 +17,11 @@ pub fn dirty(ops: &[Op]) -> u64
     ops.iter().fold(0, |pages, o| sets::union(pages, o.writes))
 }
 
-// Page p, if its row meets the set.
-fn source(rows: &[u64; 64], set: u64, p: u32) -> u64
-    ensures { Pages result (λ q. (q ≡ p) × Meet (row_of rows.now p) set) }
-{
-    if sets::meet(row(rows, p), set) {
-        sets::single(p)
-    } else {
-        0
-    }
-}
-
 // The pages whose rows meet the set.
 fn sources(rows: &[u64; 64], set: u64) -> u64
     ensures { Pages result (λ q. Meet (row_of rows.now q) set) }
 {
-    (0..64).fold(0, |pages, p| sets::union(pages, source(rows, set, p)))
+    pages_where(|p| sets::meet(row(rows, p), set))
 }
 
 // The pages that a page reaches and that reach it.
@@ -62,22 +51,11 @@ fn groups_of(reach: &[u64; 64], set: u64) -> u64
     (0..64).fold(0, |pages, p| sets::union(pages, group_if(reach, set, p)))
 }
 
-// Page p, if it is the lowest of its group.
-fn leader(reach: &[u64; 64], p: u32) -> u64
-    ensures { Pages result (λ q. (q ≡ p) × LeadsGroup reach.now p) }
-{
-    if sets::lowest(group_in(reach, p)) == p {
-        sets::single(p)
-    } else {
-        0
-    }
-}
-
 // The lowest page of each group.
 fn leaders(reach: &[u64; 64]) -> u64
     ensures { Pages result (λ q. SomeBelow 64 (λ p. (q ≡ p) × LeadsGroup reach.now p)) }
 {
-    (0..64).fold(0, |pages, p| sets::union(pages, leader(reach, p)))
+    pages_where(|p| sets::lowest(group_in(reach, p)) == p)
 }
 
 // The group of a page: empty if the page is clean.

@@ -1,5 +1,5 @@
 // Tables of rows: row a is the set of the pages that page a leads to.
-ghost use Rattle.std.specs.Prelude.{◌≡◌, ℕ, ◌<◌, ◌&&◌, ◌||◌};
+ghost use Rattle.std.specs.Prelude.{◌≡◌, ℕ, ◌<◌, true, ◌&&◌, ◌||◌};
 ghost use Rattle.sets.specs.Sets.{has, SetOf};
 ghost use Rattle.graph.specs.Rows.{row as row_of};
 
@@ -19,6 +19,21 @@ pub fn grown(row: u64, a: u32, from: u64, to: u64) -> u64
     } else {
         row
     }
+}
+
+// The pages that pass the test.
+pub fn pages_where<F: Fn(u32) -> bool>(test: F) -> u64
+    requires { F.IsAlwaysCallable test }
+    ensures within { (p : ℕ) → has result p ≡ true → p < 64 }
+    ensures tested { (p : ℕ) → p < 64 → F.post test p (has result p) }
+{
+    let mut pages = 0;
+    for p in 0..64u32 {
+        if test(p) {
+            pages = sets::union(pages, sets::single(p));
+        }
+    }
+    pages
 }
 
 // Makes each row what `next` gives for its page and the row as it was.

@@ -7,14 +7,7 @@ use std::num::NonZeroU32;
 use std::time::{Duration, Instant};
 use std::{array, io};
 
-// All pages in one group, or each page a group of its own and all others directly before page 63.
-#[derive(Clone, Copy)]
-enum Shape {
-    OneGroup,
-    Star,
-}
-
-// Reads two pages and writes two.
+// Reads two pages and writes two: all pages are in one group.
 fn tangled(i: u32) -> Op {
     let p = i % 64;
     Op {
@@ -24,7 +17,8 @@ fn tangled(i: u32) -> Op {
     }
 }
 
-// Reads page 63 and writes another, or writes page 63.
+// Reads page 63 and writes another, or writes page 63: each page is a group of its own, and all others come directly
+// before page 63.
 fn ray(i: u32) -> Op {
     let p = i % 64;
     Op {
@@ -34,18 +28,15 @@ fn ray(i: u32) -> Op {
     }
 }
 
-fn operation(shape: Shape, i: u32) -> Op {
-    match shape {
-        Shape::OneGroup => tangled(i),
-        Shape::Star => ray(i),
-    }
-}
-
-fn operations(shape: Shape) -> [Op; 128] {
+// The operations that are numbered below 128.
+fn operations<F: Fn(u32) -> Op>(operation: F) -> [Op; 128]
+    requires { F.IsAlwaysCallable operation }
+{
     array::from_fn(
         |i: usize| -> Op
-            requires { i < 128 }
-        { operation(shape, i as u32) },
+            requires within { i < 128 }
+            requires callable { F.IsAlwaysCallable operation }
+        { operation(i as u32) },
     )
 }
 
@@ -56,10 +47,9 @@ fn change(ops: &mut [Op; 128], round: u32) {
 }
 
 // The pages in the answers of a call, over all rounds.
-fn pages_answered<F: Fn(&[Op]) -> u64>(shape: Shape, rounds: u32, call: F) -> u64
+fn pages_answered<F: Fn(&[Op]) -> u64>(mut ops: [Op; 128], rounds: u32, call: F) -> u64
     requires { F.IsAlwaysCallable call }
 {
-    let mut ops = operations(shape);
     let mut pages = 0u64;
     for round in 0..rounds {
         change(&mut ops, round);
@@ -87,25 +77,25 @@ fn line(
 fn time<F: Fn(&[Op]) -> u64>(
     rt: &HostRuntime,
     name: &str,
-    shape: Shape,
+    ops: [Op; 128],
     rounds: NonZeroU32,
     call: F,
 ) -> io::Result<()>
     requires { F.IsAlwaysCallable call }
 {
     let start = Instant::now(rt)?;
-    let pages = pages_answered(shape, rounds.get(), call);
+    let pages = pages_answered(ops, rounds.get(), call);
     line(rt, name, rounds, start.elapsed(rt)?, pages)
 }
 
-fn both_calls(rt: &HostRuntime, shape: Shape, rounds: NonZeroU32) -> io::Result<()> {
-    time(rt, "  group", shape, rounds, |ops| graph::group(ops, 63))?;
-    time(rt, "  before", shape, rounds, |ops| graph::before(ops, 63))
+fn both_calls(rt: &HostRuntime, ops: [Op; 128], rounds: NonZeroU32) -> io::Result<()> {
+    time(rt, "  group", ops, rounds, |ops| graph::group(ops, 63))?;
+    time(rt, "  before", ops, rounds, |ops| graph::before(ops, 63))
 }
 
 pub(crate) fn measure(rt: &HostRuntime, rounds: NonZeroU32) -> io::Result<()> {
     println!(rt; "128 operations, all pages in one group")?;
-    both_calls(rt, Shape::OneGroup, rounds)?;
+    both_calls(rt, operations(tangled), rounds)?;
     println!(rt; "128 operations, 64 groups, 63 of them directly before one")?;
-    both_calls(rt, Shape::Star, rounds)
+    both_calls(rt, operations(ray), rounds)
 }

@@ -1,8 +1,8 @@
-use Rattle.std.proofs.Common.{◌≡◌, refl, rules}
-use Rattle.graph.specs.Rows.{LeadsGroup}
-use Rattle.graph.proofs.RowLaws.{gathered-pages}
+use Rattle.std.proofs.Common.{rules}
+use Rattle.graph.proofs.GroupLaws.{leaders-all}
 use Rattle.graph.proofs.groups.leaders.Goals as goal
 
 pub returns : goal.returns
 returns c =
-    gathered-pages _ _ (λ q p. (q ≡ p) × LeadsGroup c.args.reach.now p) (λ s x r f' k. search rules) _ c.fold.result refl c.fold.ensures.ran
+    leaders-all c.args.reach.now c.pages_where.result c.pages_where.ensures.within
+    (λ q l. let h = c.pages_where.ensures.tested q l in search rules)
