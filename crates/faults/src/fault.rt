@@ -5,6 +5,7 @@ ghost use Rattle.faults.specs.Faults.{report, same_report, text};
 use std::fmt;
 
 // One case for each cause, with what it returns.
+// Kept: what a kind refuses stands here as its code, since a fault is reported as number, place and code.
 #[derive(Clone, Copy, PartialEq, Eq, Debug)]
 pub enum Fault {
     // a page above 63
