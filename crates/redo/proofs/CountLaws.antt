@@ -1,6 +1,6 @@
 -- How many groups there are.
 use Rattle.std.proofs.Common.{◌≡◌, ℕ, zero, suc, ◌+◌, ◌<◌, Bool, true, false, cond, ◌⊎◌, sym, refl, ap, ◌∙◌, ap₂, inl, inr, arith}
-use Rattle.std.proofs.lemmas.Bool.{both_ways, cases_eq, cases_lt, cases_Bool, cond-true, cond-false}
+use Rattle.std.proofs.lemmas.Bool.{false_from_ne_true, both_ways, cases_eq, cases_lt, cases_Bool, cond-true, cond-false}
 use Rattle.sets.specs.Sets.{count, first}
 use Rattle.sets.proofs.SetLaws.{first-hit, first-least}
 use Rattle.redo.specs.Closure.{pages_below}
@@ -91,10 +91,7 @@ one-group_fewer d e n p G k j finite dirty is-group rest (f, fd, fk) (g, gd, gk)
     low = group-lowest d p G small dirty is-group
 
     apart : g l ≡ false
-    apart = elim (cases_Bool (g l)) [
-      | inl x ↦ absurd (both_ways (G l) ((rest.dirty l).0 ((gd l).0 x).is_dirty).1 in_g)
-      | inr o ↦ o
-    ]
+    apart = false_from_ne_true (g l) (λ x. both_ways (G l) ((rest.dirty l).0 ((gd l).0 x).is_dirty).1 in_g)
 
     stays : (q : ℕ) → (q ≡ l → ⊥) → f q ≡ true → g q ≡ true
     stays q ne x =
@@ -113,10 +110,8 @@ one-group_fewer d e n p G k j finite dirty is-group rest (f, fd, fk) (g, gd, gk)
     was q x =
         let lq = (gd q).0 x in
         let dq = (rest.dirty q).0 lq.is_dirty in
-        let outside : (y : ℕ) → SameGroup d y q → G y ≡ false = λ y s. elim (cases_Bool (G y)) [
-          | inl i ↦ absurd (both_ways (G q) dq.1 ((is-group q).1 (group-trans d q y p (group-sym d y q s) ((is-group y).0 i))))
-          | inr o ↦ o
-        ] in
+        let outside : (y : ℕ) → SameGroup d y q → G y ≡ false =
+        λ y s. false_from_ne_true (G y) (λ i. both_ways (G q) dq.1 ((is-group q).1 (group-trans d q y p (group-sym d y q s) ((is-group y).0 i)))) in
         (fd q).1 (record { is_dirty = dq.0; least = λ y s. lq.least y ((rest.groups y q).1 (s, outside y s)) })
 
 pub no_groups_clean_lem : NoGroupsClean

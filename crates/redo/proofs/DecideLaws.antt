@@ -1,6 +1,6 @@
 -- Arrows, reach, groups and order can be decided, where the dirty operations are among the first n and the pages that they write are listed.
 use Rattle.std.proofs.Common.{◌≡◌, ℕ, ◌<◌, Bool, true, false, not, ◌&&◌, ◌||◌, eqb, ltb, List, [], ◌∷◌, Decides, refl, inl, inr}
-use Rattle.std.proofs.lemmas.Bool.{both_ways, cases_Bool, and_parts, and_from, or_cases, or_left, or_right, eqb-true, ltb-true, lt-ltb, not_from_false, not-true}
+use Rattle.std.proofs.lemmas.Bool.{both_ways, false_from_ne_true, and_parts, and_from, or_cases, or_left, or_right, eqb-true, ltb-true, lt-ltb, not_from_false, not-true}
 use Rattle.std.proofs.lemmas.Bool.Decides.{Decides-and}
 use Rattle.redo.specs.Recovery.{some}
 use Rattle.redo.specs.WriteGraph.{Operations, Arrow, Reaches, Dirty, SameGroup, DirectlyBefore}
@@ -143,7 +143,7 @@ module _ (d : Operations) (n : ℕ) (ks : List ℕ) where
         complete : DirectlyBefore d a b → order-test a b ≡ true
         complete x =
             and_from (not (group-test a b)) (some_of ks (step-test a b))
-            (elim (cases_Bool (group-test a b)) [ inl s ↦ absurd (x.apart ((group-decides a b).0 s)) | inr o ↦ not_from_false (group-test a b) o ])
+            (not_from_false (group-test a b) (false_from_ne_true (group-test a b) (λ s. x.apart ((group-decides a b).0 s))))
             (some-of_from ks (step-test a b) x.from (dirty-listed x.from (reach-to d x.from_group.0))
             (and_from (group-test a x.from) (some_of ks (link_test x.from b)) ((group-decides a x.from).1 x.from_group)
             (some-of_from ks (link_test x.from b) x.to (dirty-listed x.to (arrow-to d x.from x.to x.arrow))

@@ -1,6 +1,6 @@
 -- A group that has none directly before it can be installed, and the rest of the graph stays.
 use Rattle.std.proofs.Common.{◌≡◌, ℕ, ◌<◌, ◌≤◌, Bool, true, false, not, ◌&&◌, ◌||◌, ltb, leb, ◌⊎◌, sym, refl, ap, ◌∙◌, subst, inl, inr, arith}
-use Rattle.std.proofs.lemmas.Bool.{both_ways, cond-true, cond-false, cases_Bool, and_parts, and_from, or_left, or_right, or_from, or_parts, or_cases, leb-true, ltb-true, lt-ltb, le-leb, not_from_false, not-true, not-false, and_cases, cases_order}
+use Rattle.std.proofs.lemmas.Bool.{false_from_ne_true, true_from_ne_false, both_ways, cond-true, cond-false, cases_Bool, and_parts, and_from, or_left, or_right, or_from, or_parts, or_cases, leb-true, ltb-true, lt-ltb, le-leb, not_from_false, not-true, not-false, and_cases, cases_order}
 use Rattle.redo.specs.Histories.{page_count, Page, History, reads, writes, touches, after, image, Ran}
 use Rattle.redo.specs.Prefixes.{uninstalled, Prefix, Untouched, Exposed, Recoverable, Installed}
 use Rattle.redo.specs.Recovery.{some}
@@ -73,20 +73,17 @@ module _ (h : History) (I : ℕ → Bool) (n : ℕ) (p : ℕ) (G : ℕ → Bool)
 
   -- no arrow leads into the group from outside
   closed : (a b : ℕ) → Arrow d a b → G b ≡ true → G a ≡ true
-  closed a b ar g = elim (cases_Bool (G a)) [
-    | inl in-it ↦ in-it
-    | inr out ↦ absurd (ready.none_before a (record {
-      from = a;
-      to = b;
-      from_group = group-self d a (arrow-from d a b ar);
-      arrow = ar;
-      to_group = (is-group b).0 g;
-      apart = λ s. both_ways (G a) out ((is-group a).1 s);
-    }))
-  ]
+  closed a b ar g = true_from_ne_false (G a) (λ out. ready.none_before a (record {
+    from = a;
+    to = b;
+    from_group = group-self d a (arrow-from d a b ar);
+    arrow = ar;
+    to_group = (is-group b).0 g;
+    apart = λ s. both_ways (G a) out ((is-group a).1 s);
+  }))
 
   leaves : (a b : ℕ) → Arrow d a b → G a ≡ false → G b ≡ false
-  leaves a b ar out = elim (cases_Bool (G b)) [ inl g ↦ absurd (both_ways (G a) out (closed a b ar g)) | inr o ↦ o ]
+  leaves a b ar out = false_from_ne_true (G b) (λ g. both_ways (G a) out (closed a b ar g))
 
   joins : (m q : ℕ) → uninstalled h I n m ≡ true → writes h m q ≡ true → G q ≡ true → J m ≡ true
   joins m q dirty wr g =
@@ -108,18 +105,13 @@ module _ (h : History) (I : ℕ → Bool) (n : ℕ) (p : ℕ) (G : ℕ → Bool)
       uninstalled-from h I n m u.0 u.1 (or_parts (I m) (uninstalled h I n m && into m) u.2).0
 
   was-outside : (m q : ℕ) → uninstalled h J n m ≡ true → writes h m q ≡ true → G q ≡ false
-  was-outside m q x wr = elim (cases_Bool (G q)) [
-    | inl g ↦ absurd (both_ways (J m) (uninstalled-parts h J n m x).2 (joins m q (was-dirty m x) wr g))
-    | inr o ↦ o
-  ]
+  was-outside m q x wr = false_from_ne_true (G q) (λ g. both_ways (J m) (uninstalled-parts h J n m x).2 (joins m q (was-dirty m x) wr g))
 
   still_dirty : (m q : ℕ) → uninstalled h I n m ≡ true → writes h m q ≡ true → G q ≡ false → uninstalled h J n m ≡ true
   still_dirty m q dirty wr out =
       let u = uninstalled-parts h I n m dirty in
-      uninstalled-from h J n m u.0 u.1 (or_from (I m) (uninstalled h I n m && into m) u.2 (elim (cases_Bool (uninstalled h I n m && into m)) [
-        | inl new ↦ absurd (both_ways (G q) out (joined-writes m q new wr))
-        | inr o ↦ o
-      ]))
+      uninstalled-from h J n m u.0 u.1 (or_from (I m) (uninstalled h I n m && into m) u.2
+      (false_from_ne_true (uninstalled h I n m && into m) (λ new. both_ways (G q) out (joined-writes m q new wr))))
 
   arrow-keeps : (a b : ℕ) → Arrow d a b → G a ≡ false → Arrow e a b
   arrow-keeps a b ar out = arrow-by h n I J a b (λ m dirty wr. elim wr [

@@ -1,7 +1,7 @@
 -- Running one more operation, losing operations at the end, and dropping installed ones from the log.
 use Rattle.std.proofs.Common.{◌≡◌, ℕ, zero, suc, ◌<◌, ◌≤◌, Bool, true, false, cond, not, ◌&&◌, ◌||◌, eqb, ltb, leb, ◌⊎◌, List, Some, sym, refl, ap, ◌∙◌, subst, ap₂, inl, inr, arith}
 use mathlib.Core.Path.{fun_ext}
-use Rattle.std.proofs.lemmas.Bool.{both_ways, cond-true, cond-false, cases_Bool, cases_lt, cases_eq, and_left, and_right, or_left, or_right, or_cases, le-leb, lt-leb, lt-ltb, le-ltb, eq-eqb, ne_eqb, not_from_true}
+use Rattle.std.proofs.lemmas.Bool.{false_from_ne_true, both_ways, cond-true, cond-false, cases_lt, cases_eq, and_left, and_right, or_left, or_right, or_cases, le-leb, lt-leb, lt-ltb, le-ltb, eq-eqb, ne_eqb, not_from_true}
 use Rattle.redo.specs.Histories.{Page, Operation, History, reads, writes, touches, contents_of, effect_on, renewed, run, after, image, WellFormed, Ran}
 use Rattle.redo.specs.Prefixes.{uninstalled, Prefix, Installed}
 use Rattle.redo.specs.Installation.{extended, trimmed}
@@ -72,7 +72,7 @@ run-keeps h I n w o new ran kept f well ok = record {
 }
   where
     not_yet : I n ≡ false
-    not_yet = elim (cases_Bool (I n)) [ inl i ↦ absurd (omega (arith, kept.were_run n i)) | inr out ↦ out ]
+    not_yet = false_from_ne_true (I n) (λ i. omega (arith, kept.were_run n i))
 
     well-at : (m : ℕ) → h.first ≤ m → m < suc n → WellFormed ((extended h n o).operation m)
     well-at m g l = elim (cases_eq m n) [
@@ -111,7 +111,7 @@ loss_keeps_lem h I n k w ran kept l none =
     record { ran = ran'; installed = kept'; still_dirty = λ m. dirty-at m (cases_lt m k) }
   where
     out : (m : ℕ) → k ≤ m → I m ≡ false
-    out m a = elim (cases_Bool (I m)) [ inl i ↦ absurd (omega (arith, none m i)) | inr o ↦ o ]
+    out m a = false_from_ne_true (I m) (λ i. omega (arith, none m i))
 
     ran' : Ran h k
     ran' = record {

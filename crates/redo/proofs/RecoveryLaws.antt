@@ -1,7 +1,7 @@
 -- Redo recovers.
 use Rattle.std.proofs.Common.{◌≡◌, ℕ, zero, suc, ◌<◌, ◌≤◌, Bool, true, false, cond, not, ◌&&◌, ◌||◌, ltb, leb, ◌⊎◌, sym, refl, ap, ◌∙◌, subst, inl, inr, arith}
 use mathlib.Core.Path.{fun_ext}
-use Rattle.std.proofs.lemmas.Bool.{both_ways, cases_Bool, cases_lt, cases_eq, and_parts, and_from, and_left, or_left, or_right, or_from, or_cases, leb-true, ltb-true, lt-ltb, le-ltb, le-leb, not_from_false, not-true}
+use Rattle.std.proofs.lemmas.Bool.{false_from_ne_true, both_ways, cases_lt, cases_eq, and_parts, and_from, and_left, or_left, or_right, or_from, or_cases, leb-true, ltb-true, lt-ltb, le-ltb, le-leb, not_from_false, not-true}
 use Rattle.redo.specs.Histories.{page_count, Page, History, reads, writes, touches, contents_of, effect_on, run, after, image, Ran}
 use Rattle.redo.specs.Prefixes.{uninstalled, Prefix, Untouched, Exposed, Explains, Numbered}
 use Rattle.redo.specs.Recovery.{every, AtOrAbove, Below, present, missing, redo}
@@ -72,10 +72,7 @@ module _ (h : History) (I : ℕ → Bool) (n : ℕ) (ran : Ran h n) where
   module _ (pre : Prefix h I n) where
     -- an operation outside the prefix keeps out the later ones that write what it touches
     later-out : (m k p : ℕ) → I m ≡ false → m < k → k < n → touches h m p ≡ true → writes h k p ≡ true → I k ≡ false
-    later-out m k p out l kn t wr = elim (cases_Bool (I k)) [
-      | inl i ↦ absurd (both_ways (I m) out (pre m k p l kn i wr t))
-      | inr o ↦ o
-    ]
+    later-out m k p out l kn t wr = false_from_ne_true (I k) (λ i. both_ways (I m) out (pre m k p l kn i wr t))
 
     -- no operation from m on that is in the set writes what m touches
     none_from : (m p j : ℕ) → I m ≡ false → touches h m p ≡ true → m ≤ j → j < n → writes h j p ≡ true → I j ≡ false
@@ -274,17 +271,14 @@ redo-recovers h I n w ran rec = record {
 
     present-at : (m : ℕ) → h.first ≤ m → m < n → (b : Bool) → I m ≡ b → present h m (redo h m w) ≡ I m
     present-at m f l true e = above-present h I n ran m (redo h m w) (above_in h I n ran pre m (redo h m w) (at m l) l e) ∙ sym e
-    present-at m f l false e = elim (cases_Bool (present h m (redo h m w))) [
-      | inl up ↦ absurd (not-both m f l up (missing-out h I n ran pre m (redo h m w) (at m l) e))
-      | inr no_more ↦ no_more ∙ sym e
-    ]
+    present-at m f l false e =
+        false_from_ne_true (present h m (redo h m w)) (λ up. not-both m f l up (missing-out h I n ran pre m (redo h m w) (at m l) e)) ∙ sym e
 
     missing_at : (m : ℕ) → h.first ≤ m → m < n → (b : Bool) → I m ≡ b → missing h m (redo h m w) ≡ not (I m)
     missing_at m f l false e = missing-out h I n ran pre m (redo h m w) (at m l) e ∙ sym (ap not e)
-    missing_at m f l true e = elim (cases_Bool (missing h m (redo h m w))) [
-      | inl down ↦ absurd (not-both m f l (above-present h I n ran m (redo h m w) (above_in h I n ran pre m (redo h m w) (at m l) l e)) down)
-      | inr no_more ↦ no_more ∙ sym (ap not e)
-    ]
+    missing_at m f l true e =
+        false_from_ne_true (missing h m (redo h m w)) (not-both m f l (above-present h I n ran m (redo h m w) (above_in h I n ran pre m (redo h m w) (at m l) l e)))
+        ∙ sym (ap not e)
 
     again-at : (m : ℕ) → m < n → (b : Bool) → leb h.first m ≡ b → (leb h.first m && missing h m (redo h m w)) ≡ uninstalled h I n m
     again-at m l true e = ap (λ x. leb h.first m && x) (missing_at m (leb-true h.first m e) l (I m) refl ∙ sym (ap (λ x. x && not (I m)) (lt-ltb m n l)))
