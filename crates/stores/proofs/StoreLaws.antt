@@ -2,7 +2,7 @@
 use Rattle.std.proofs.Common.{◌≡◌, ℕ, ◌^◌, ◌<◌, ◌≤◌, Bool, true, false, cond, leb, ◌⊎◌, List, [], ◌∷◌, ◌++◌, map, length, get_or, Some, None, Option, sym, refl, ap, ◌∙◌, subst, inl, inr, arith}
 use lib.Bits.{bit_xor}
 use Rattle.std.proofs.lemmas.List.{length-map, length-append}
-use Rattle.std.proofs.lemmas.Bool.{eq-eqb, ne_eqb, le-leb, lt-leb, cond-true, cond-false}
+use Rattle.std.proofs.lemmas.Bool.{eq-eqb, ne_eqb, le-leb, cond-true}
 use Rattle.faults.specs.declared.fault.Fault.TheVariants.{PowerLost, TooShort}
 use Rattle.faults.specs.Faults.{Report, report}
 use Rattle.media.specs.Media.{Device, Whole, block_count, check}
@@ -12,8 +12,8 @@ use Rattle.media.proofs.PlanLaws.{throughout-ran, ran-passed, ran-failed, ran-co
 use Rattle.stores.specs.Images.{blank, pictured}
 use Rattle.stores.specs.Layout.{set_in, page_in}
 use Rattle.stores.specs.Stores.{State, Live, Dead, Short, Store, store_on, Ending, Passes, FailsOld, FailsNew, Possible, installed, InstalledBy, Installed, end_fault, end_store, is_short}
-use Rattle.stores.specs.Plans.{image_writes, set_write, every_page, settle_writes, journal_writes, shadow_writes, journal_plan, shadow_plan}
-use Rattle.stores.proofs.PlanLaws.{Installs, journal_none, journal_some, journal_installs, journal_plan_lem, shadow_none, shadow_some, shadow_installs, shadow_plan_lem}
+use Rattle.stores.specs.Plans.{image_writes, set_write, every_page, settle_writes, journal_writes, shadow_writes, journal_plan, shadow_plan, blocks_in}
+use Rattle.stores.proofs.PlanLaws.{Installs, journal_some, journal_installs, journal_plan_lem, shadow_some, shadow_installs, shadow_plan_lem}
 
 -- ---- the store on a medium
 
@@ -144,48 +144,42 @@ abbrev pub Done : (List (List ℕ) → ℕ → List ℕ → List Write) → (Lis
 Done writes plan m m' set' images o =
     Ran m (writes m.blocks set' images) o m' × (129 ≤ block_count m → Installed (store_on m) (plan m.blocks set') set' images o (store_on m'))
 
-module _ (m : Device) (set' : ℕ) (images : List ℕ) (long : length images ≡ 16384) where
+module _ (writes : List (List ℕ) → ℕ → List ℕ → List Write) (plan : List (List ℕ) → ℕ → List ℕ) (m : Device) (set' : ℕ) (images : List ℕ) (long : length images ≡ 16384) where
   -- nothing is written for an empty set
-  pub journal_idle : set' ≡ 0 → Done journal_writes journal_plan m m set' images None
-  journal_idle z = (
-    subst (λ ws. Ran m ws None m) (sym (journal_none m.blocks set' images z)) done,
-    λ room. empty_installs m (journal_plan m.blocks set') images long room set' z,
+  pub idle : set' ≡ 0 → writes m.blocks set' images ≡ [] → Done writes plan m m set' images None
+  idle z none = (
+    subst (λ ws. Ran m ws None m) (sym none) done,
+    λ room. empty_installs m (plan m.blocks set') images long room set' z,
   )
 
-  pub shadow_idle : set' ≡ 0 → Done shadow_writes shadow_plan m m set' images None
-  shadow_idle z = (
-    subst (λ ws. Ran m ws None m) (sym (shadow_none m.blocks set' images z)) done,
-    λ room. empty_installs m (shadow_plan m.blocks set') images long room set' z,
+  -- a run of writes that install the set
+  started : (m' : Device) (o : Option Report) → (set' ≡ 0 → ⊥) → blocks_in (writes m.blocks set' images) ≡ plan m.blocks set' → (ws : List Write) → writes m.blocks set' images ≡ ws → 0 < length ws
+      → (129 ≤ block_count m → Installs m.blocks ws (installed set' images (page_in m.blocks))) → Ran m ws o m' → Done writes plan m m' set' images o
+  started m' o some planned ws parts written installs r = (
+    subst (λ vs. Ran m vs o m') (sym parts) r,
+    λ room.
+        subst (λ bs. Installed (store_on m) bs set' images o (store_on m')) (ap blocks_in (sym parts) ∙ planned)
+        (ran-installs m m' room set' images long some ws written (installs room) o r),
   )
 
-  module _ (m' : Device) (some : set' ≡ 0 → ⊥) (within : set' < 2 ^ 64) (o : Option Report) where
-    pub journal_done : Whole m → Ran m (settle_writes m.blocks ++ (image_writes every_page set' (pictured images) ++ (set_write set' ∷ (image_writes 0 set' (pictured images) ++ (set_write 0 ∷ []))))) o m'
-        → Done journal_writes journal_plan m m' set' images o
-    journal_done whole r =
-        let parts = journal_some m.blocks set' images some in
-        let ran = subst (λ ws. Ran m ws o m') (sym parts) r in (
-          ran,
-          λ room.
-              let plan = subst (λ ws. Installs m.blocks ws (installed set' images (page_in m.blocks))) (sym parts) (journal_installs m.blocks room set' within images long whole some) in
-              subst (λ bs. Installed (store_on m) bs set' images o (store_on m')) (journal_plan_lem m.blocks set' images)
-              (ran-installs m m' room set' images long some (journal_writes m.blocks set' images) (subst (λ ws. 0 < length ws) (sym parts) (longer (settle_writes m.blocks) (image_writes every_page set' (pictured images)) (set_write set') (image_writes 0 set' (pictured images) ++ (set_write 0 ∷ [])))) plan o ran),
-        )
-      where
-        longer : (us vs : List Write) (w : Write) (ws : List Write) → 0 < length (us ++ (vs ++ (w ∷ ws)))
-        longer us vs w ws = omega (arith, length-append us (vs ++ (w ∷ ws)), length-append vs (w ∷ ws))
+module _ (m : Device) (set' : ℕ) (images : List ℕ) (long : length images ≡ 16384) (m' : Device) (some : set' ≡ 0 → ⊥) (within : set' < 2 ^ 64) (o : Option Report) where
+  pub journal_done : Whole m → Ran m (settle_writes m.blocks ++ (image_writes every_page set' (pictured images) ++ (set_write set' ∷ (image_writes 0 set' (pictured images) ++ (set_write 0 ∷ []))))) o m'
+      → Done journal_writes journal_plan m m' set' images o
+  journal_done whole r =
+      started journal_writes journal_plan m set' images long m' o some (journal_plan_lem m.blocks set' images) _ (journal_some m.blocks set' images some)
+      (longer (settle_writes m.blocks) (image_writes every_page set' (pictured images)) (set_write set') (image_writes 0 set' (pictured images) ++ (set_write 0 ∷ [])))
+      (λ room. journal_installs m.blocks room set' within images long whole some) r
+    where
+      longer : (us vs : List Write) (w : Write) (ws : List Write) → 0 < length (us ++ (vs ++ (w ∷ ws)))
+      longer us vs w ws = omega (arith, length-append us (vs ++ (w ∷ ws)), length-append vs (w ∷ ws))
 
-    pub shadow_done : (upper : ℕ) → upper < 2 ^ 64 → upper ≡ set_in m.blocks → Ran m (image_writes (bit_xor upper every_page) set' (pictured images) ++ (set_write (bit_xor upper set') ∷ [])) o m'
-        → Done shadow_writes shadow_plan m m' set' images o
-    shadow_done upper low here r =
-        let parts = shadow_some m.blocks set' images some in
-        let low' : set_in m.blocks < 2 ^ 64 = subst (λ u. u < 2 ^ 64) here low in
-        let ran = subst (λ ws. Ran m ws o m') (ap (λ u. image_writes (bit_xor u every_page) set' (pictured images) ++ (set_write (bit_xor u set') ∷ [])) here ∙ sym parts) r in (
-          ran,
-          λ room.
-              let plan = subst (λ ws. Installs m.blocks ws (installed set' images (page_in m.blocks))) (sym parts) (shadow_installs m.blocks room set' within images long low' some) in
-              subst (λ bs. Installed (store_on m) bs set' images o (store_on m')) (shadow_plan_lem m.blocks set' images)
-              (ran-installs m m' room set' images long some (shadow_writes m.blocks set' images) (subst (λ ws. 0 < length ws) (sym parts) (longer (image_writes (bit_xor (set_in m.blocks) every_page) set' (pictured images)) (set_write (bit_xor (set_in m.blocks) set')))) plan o ran),
-        )
-      where
-        longer : (us : List Write) (w : Write) → 0 < length (us ++ (w ∷ []))
-        longer us w = omega (arith, length-append us (w ∷ []))
+  pub shadow_done : (upper : ℕ) → upper < 2 ^ 64 → upper ≡ set_in m.blocks → Ran m (image_writes (bit_xor upper every_page) set' (pictured images) ++ (set_write (bit_xor upper set') ∷ [])) o m'
+      → Done shadow_writes shadow_plan m m' set' images o
+  shadow_done upper low here r =
+      started shadow_writes shadow_plan m set' images long m' o some (shadow_plan_lem m.blocks set' images) _ (shadow_some m.blocks set' images some)
+      (longer (image_writes (bit_xor (set_in m.blocks) every_page) set' (pictured images)) (set_write (bit_xor (set_in m.blocks) set')))
+      (λ room. shadow_installs m.blocks room set' within images long (subst (λ u. u < 2 ^ 64) here low) some)
+      (subst (λ u. Ran m (image_writes (bit_xor u every_page) set' (pictured images) ++ (set_write (bit_xor u set') ∷ [])) o m') here r)
+    where
+      longer : (us : List Write) (w : Write) → 0 < length (us ++ (w ∷ []))
+      longer us w = omega (arith, length-append us (w ∷ []))

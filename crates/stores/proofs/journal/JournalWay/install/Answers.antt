@@ -2,12 +2,16 @@ use Rattle.std.proofs.Common.{Some}
 use Rattle.std.proofs.lemmas.Result.{err_from_is_err_and}
 use Rattle.faults.specs.Faults.{report, refusal}
 use Rattle.media.proofs.PlanLaws.{ran_then, ran_refused}
-use Rattle.stores.proofs.StoreLaws.{journal_idle, journal_done}
+use Rattle.stores.specs.Plans.{journal_writes, journal_plan}
+use Rattle.stores.proofs.PlanLaws.{journal_none}
+use Rattle.stores.proofs.StoreLaws.{idle, journal_done}
 use Rattle.stores.proofs.journal.JournalWay.install.Goals as goal
 
 pub returns-then-set-eq0 : goal.returns-then-set-eq0
 returns-then-set-eq0 g c =
-    let r = journal_idle (g.M.Medium.model c.args.medium.now) c.args.set c.args.images.now c.told-images c.if-set-eq0.true in
+    let m = g.M.Medium.model c.args.medium.now in
+    let z = c.if-set-eq0.true in
+    let r = idle journal_writes journal_plan m c.args.set c.args.images.now c.told-images z (journal_none m.blocks c.args.set c.args.images.now z) in
     record { ran = r.0; installed = r.1 }
 
 pub returns-in_err-settle : goal.returns-in_err-settle

@@ -2,12 +2,16 @@ use Rattle.std.proofs.Common.{Some}
 use Rattle.std.proofs.lemmas.Result.{err_from_is_err_and}
 use Rattle.faults.specs.Faults.{report, refusal}
 use Rattle.media.proofs.PlanLaws.{ran_then, ran_refused}
-use Rattle.stores.proofs.StoreLaws.{shadow_idle, shadow_done}
+use Rattle.stores.specs.Plans.{shadow_writes, shadow_plan}
+use Rattle.stores.proofs.PlanLaws.{shadow_none}
+use Rattle.stores.proofs.StoreLaws.{idle, shadow_done}
 use Rattle.stores.proofs.shadow.ShadowWay.install.Goals as goal
 
 pub returns-then-set-eq0 : goal.returns-then-set-eq0
 returns-then-set-eq0 g c =
-    let r = shadow_idle (g.M.Medium.model c.args.medium.now) c.args.set c.args.images.now c.told-images c.if-set-eq0.true in
+    let m = g.M.Medium.model c.args.medium.now in
+    let z = c.if-set-eq0.true in
+    let r = idle shadow_writes shadow_plan m c.args.set c.args.images.now c.told-images z (shadow_none m.blocks c.args.set c.args.images.now z) in
     record { ran = r.0; installed = r.1 }
 
 pub returns-in_err-write_images : goal.returns-in_err-write_images
