@@ -2,6 +2,7 @@
 use Rattle.std.proofs.Common.{◌≡◌, ℕ, ◌^◌, ◌<◌, ◌≤◌, Bool, true, false, cond, leb, ◌⊎◌, List, [], ◌∷◌, ◌++◌, map, length, get_or, Some, None, Option, sym, refl, ap, ◌∙◌, subst, inl, inr, arith}
 use lib.Bits.{bit_xor}
 use Rattle.std.proofs.lemmas.List.{length-map, length-append}
+use Rattle.std.proofs.lemmas.Bool.Decides.{nat_tests}
 use Rattle.std.proofs.lemmas.Bool.{eq-eqb, ne_eqb, le-leb, cond-true}
 use Rattle.faults.specs.declared.fault.Fault.TheVariants.{PowerLost, TooShort}
 use Rattle.faults.specs.Faults.{Report, report}
@@ -11,7 +12,7 @@ use Rattle.media.specs.Plans.Ran.{done}
 use Rattle.media.proofs.PlanLaws.{throughout-ran, ran-passed, ran-failed, ran-count, ran-lives}
 use Rattle.stores.specs.Images.{blank, pictured}
 use Rattle.stores.specs.Layout.{set_in, page_in}
-use Rattle.stores.specs.Stores.{State, Live, Dead, Short, Store, store_on, Ending, Passes, FailsOld, FailsNew, Possible, installed, InstalledBy, Installed, end_fault, end_store, is_short}
+use Rattle.stores.specs.Stores.{install_check, Carried, State, Live, Dead, Short, Store, store_on, Ending, Passes, FailsOld, FailsNew, Possible, installed, InstalledBy, Installed, end_fault, end_store, is_short}
 use Rattle.stores.specs.Plans.{image_writes, set_write, every_page, settle_writes, journal_writes, shadow_writes, journal_plan, shadow_plan, blocks_in}
 use Rattle.stores.proofs.PlanLaws.{Installs, journal_some, journal_installs, journal_plan_lem, shadow_some, shadow_installs, shadow_plan_lem}
 
@@ -183,3 +184,14 @@ module _ (m : Device) (set' : ℕ) (images : List ℕ) (long : length images ≡
     where
       longer : (us : List Write) (w : Write) → 0 < length (us ++ (w ∷ []))
       longer us w = omega (arith, length-append us (w ∷ []))
+
+-- behind the checks of an install, a run of its writes is an install
+check-passed : (m : Device) (images : List ℕ) → None ≡ install_check m images → 129 ≤ block_count m
+check-passed m images e = grind (arith, nat_tests)
+
+pub checked : (writes : List (List ℕ) → ℕ → List ℕ → List Write) (plan : List (List ℕ) → ℕ → List ℕ) (m m' : Device) (set' : ℕ) (images all : List ℕ) (o : Option Report)
+    → None ≡ install_check m images → all ≡ images → Done writes plan m m' set' all o
+    → Installed (store_on m) (plan m.blocks set') set' images o (store_on m') × Carried m (writes m.blocks set' images) images o m'
+checked writes plan m m' set' images all o passed same r =
+    let here : Done writes plan m m' set' images o = subst (λ x. Done writes plan m m' set' x o) same r in
+    (here.1 (check-passed m images passed), rw (sym passed) here.0)

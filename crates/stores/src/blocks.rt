@@ -15,7 +15,7 @@ use media::{BLOCK, Medium};
 use sets::{Number, Page, contains};
 
 // How many pages there are.
-pub(crate) const PAGES: u32 = 64;
+const PAGES: u32 = 64;
 
 // The bytes of an image that are stored: number and contents.
 const STORED: usize = 228;
@@ -42,7 +42,7 @@ fn slot_of(upper: u64, page: Page) -> usize
 }
 
 // Reads the image in a block.
-pub(crate) fn load_image<M: Medium>(medium: &M, block: usize) -> [u8; BLOCK]
+fn load_image<M: Medium>(medium: &M, block: usize) -> [u8; BLOCK]
     requires there { block < block_count (M.Medium.model medium.now) }
     ensures { result ≡ image_of (block_at (M.Medium.model medium.now) block) }
 {

@@ -6,6 +6,7 @@ use crate::on_medium::{MediumStore, Way};
 use faults::Fault;
 use media::Medium;
 
+// The way of the journal store.
 pub struct Journal;
 
 pub type JournalStore<M> = MediumStore<M, Journal>;

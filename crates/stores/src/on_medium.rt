@@ -26,6 +26,7 @@ pub trait Way {
         ensures installed { 129 ≤ block_count (M.Medium.model medium.old) → Installed (store_on (M.Medium.model medium.old)) (plan (M.Medium.model medium.old).blocks set) set images.now (refusal result) (store_on (M.Medium.model medium.new)) };
 }
 
+// A page store on a medium, which installs in the way W.
 #[derive(Drop)]
 pub struct MediumStore<M, W> {
     medium: M,

@@ -6,6 +6,7 @@ use crate::on_medium::{MediumStore, Way};
 use faults::Fault;
 use media::Medium;
 
+// The way of the shadow store.
 pub struct Shadow;
 
 pub type ShadowStore<M> = MediumStore<M, Shadow>;
