@@ -1,12 +1,7 @@
 -- Buffers written in parts.
-use Rattle.std.proofs.Common.{◌≡◌, ℕ, ◌+◌, ◌-◌, List, [], ◌++◌, length, take, drop, ap, ◌∙◌, ap₂, arith}
+use Rattle.std.proofs.Common.{◌≡◌, ℕ, ◌+◌, List, [], ◌++◌, length, take, drop, ap, ◌∙◌, ap₂, arith}
 use borrow.Rule.Slice.PartMut.{put_mid, post_of}
-use Rattle.std.proofs.lemmas.List.{append-nil, length-take, length-drop, take_at, drop_at, drop-drop, drop_all, take_all}
-
-pub lay-is : (o m : ℕ) (old new bytes w : List ℕ) → m ≡ o + length bytes - o → new ≡ old → w ≡ bytes → put_mid o m new w ≡ take o old ++ (bytes ++ drop (o + length bytes) old)
-lay-is o m old new bytes w em en ew =
-    let k : m ≡ length bytes = omega arith in
-    ap (λ t. put_mid o m t w) en ∙ ap₂ (λ x y. take o old ++ (x ++ y)) ew (drop-drop m o old ∙ ap (λ j. drop (o + j) old) k)
+use Rattle.std.proofs.lemmas.List.{append-nil, length-take, length-drop, take_at, drop_at, drop_all, take_all}
 
 pub exchange_is : (k n : ℕ) (old new x y : List ℕ) → k ≡ 224 → length old ≡ k + k → length new ≡ k + k → x ≡ take k (drop k old) → y ≡ take k old → put_mid k k (x ++ post_of 0 k new) y ≡ drop k old ++ take k old
 exchange_is k n old new x y ek lo ln ex ey =

@@ -4,26 +4,10 @@ use Rattle.std.proofs.Common.{inl, inr, sym, ap, subst, ◌∙◌, arith}
 use Rattle.std.proofs.ByRecursion.{All-take, All-drop, All-append, All-get_or}
 use Rattle.std.proofs.lemmas.List.{length-append, length-take, length-drop, length-replicate, get_or_past}
 use Rattle.std.proofs.lemmas.Bool.{cond-true, cond-false, cond_both, and_parts, leb-true, ltb-true, eqb-true, eqb-false, ne_eqb, not-true, cases_lt}
-use Rattle.std.proofs.lemmas.Bool.Decides.{nat_tests}
 use Rattle.sets.specs.Sets.{size}
 use Rattle.kinds.specs.Actions.{Action, patch, fill, copy, swap, when, parse, patch_of, fill_from, copy_of, swap_from, sets, change, scope_by, effect_by, page_meaning, Ready}
 use Rattle.kinds.specs.Kinds.{Bytes, Scoped, Lawful, within, reply}
 use Rattle.kinds.specs.PageSetLaws.{set_below, size-only, size-both, size-run, size_none}
-
-least : (t k n m : ℕ) → (t ≡ k → m ≤ n → ⊥) → (t == k && nat_le m n) ≡ false
-least t k n m h = grind (arith, nat_tests)
-
-exact : (t k n m : ℕ) → (t ≡ k → n ≢ m) → (t == k && n == m) ≡ false
-exact t k n m h = grind (arith, nat_tests)
-
--- a body of none of the four forms
-pub parse-none : (b : List ℕ) → (slice_index b 0 ≡ 1 → 3 ≤ length b → ⊥) → (slice_index b 0 ≡ 2 → length b ≢ 3) → (slice_index b 0 ≡ 3 → length b ≢ 4) → (slice_index b 0 ≡ 4 → length b ≢ 3) → None ≡ parse b
-unfolding parse
-parse-none b h1 h2 h3 h4 =
-    sym (cond-false (slice_index b 0 == 1 && nat_le 3 (length b)) _ _ (least (slice_index b 0) 1 (length b) 3 h1)
-    ∙ cond-false (slice_index b 0 == 2 && length b == 3) _ _ (exact (slice_index b 0) 2 (length b) 3 h2)
-    ∙ cond-false (slice_index b 0 == 3 && length b == 4) _ _ (exact (slice_index b 0) 3 (length b) 4 h3)
-    ∙ cond-false (slice_index b 0 == 4 && length b == 3) _ _ (exact (slice_index b 0) 4 (length b) 3 h4))
 
 -- ---- what a body that is parsed says
 

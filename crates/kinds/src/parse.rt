@@ -48,6 +48,7 @@ fn swap_of<'a>(a: u8, b: u8) -> Option<Op<'a>>
 
 impl<'a> Op<'a> {
     // The operation that a body says; none where the body is not of the form.
+    #[tactic(auto, using(std::proofs::lemmas::Bool::Decides::nat_tests, std::proofs::lemmas::List::take_rest), unfolding(crate::specs::Actions::parse))]
     pub fn parse(body: &'a [u8]) -> Option<Op<'a>>
         ensures { viewed result ≡ parse_of body.now }
     {

@@ -1,11 +1,7 @@
 -- Pages written front to back.
-use Rattle.std.proofs.Common.{◌≡◌, ℕ, ◌+◌, ◌-◌, ◌*◌, ◌/◌, ◌%◌, ◌≤◌, List, [], ◌∷◌, ◌++◌, length, take, drop, sym, refl, ap, ◌∙◌, ap₂, arith}
-use borrow.Rule.Slice.PartMut.{put_mid}
+use Rattle.std.proofs.Common.{◌≡◌, ℕ, ◌+◌, ◌-◌, ◌≤◌, List, ◌++◌, length, take, drop, sym, refl, ap, ◌∙◌, ap₂, arith}
 use Rattle.std.proofs.lemmas.List.{append_assoc, length-take, length-drop, take_all}
-use Rattle.std.proofs.lemmas.Slice.{take-put_mid}
-use Rattle.sets.specs.Words.{bytes_of, part}
-use Rattle.sets.proofs.WordLaws.{bytes-length}
-use Rattle.tree.specs.Nodes.{entry_bytes}
+use Rattle.sets.specs.Words.{part}
 
 -- one more piece
 pub front-more : (before after f x y : List ℕ) (a b : ℕ) → take (a + length x) after ≡ take a before ++ x → take a before ≡ f → x ≡ y → b ≡ a + length y → take b after ≡ f ++ y
@@ -28,51 +24,7 @@ part_length a k c l = simp (length-take, length-drop) (omega arith)
 pub part-rest : (a e : ℕ) (c : List ℕ) → length c ≡ e → take (e - a) (drop a c) ≡ drop a c
 part-rest a e c l = take_all (e - a) (drop a c) (simp length-drop (omega arith))
 
-pub placed : (at k : ℕ) (new bytes w : List ℕ) → k ≡ at + length bytes - at → w ≡ bytes → at ≤ length new → take (at + length bytes) (put_mid at k new w) ≡ take at new ++ bytes
-placed at k new bytes w ek ew l = ap (λ t. take (at + length bytes) (put_mid at k new t)) ew ∙ take-put_mid at k new bytes (at + length bytes) refl l
-
--- a word as the machine writes it
-pub word_is : (x : ℕ) (w : List ℕ) → w ≡ (x % 256) ∷ ((x / 256 % 256) ∷ ((x / 65536 % 256) ∷ ((x / 16777216 % 256) ∷ []))) → w ≡ bytes_of 4 x
-word_is x w e =
-    let b : x / 65536 % 256 ≡ x / 256 / 256 % 256 = omega arith in
-    let d : x / 16777216 % 256 ≡ x / 256 / 256 / 256 % 256 = omega arith in
-    e ∙ (λ i. (x % 256) ∷ ((x / 256 % 256) ∷ (b i ∷ (d i ∷ []))))
-
-pub entry-placed : (n0 n1 n2 w1 w2 : List ℕ) (at k v : ℕ) → take (at + length w1) n1 ≡ take at n0 ++ w1 → take (at + 4 + length w2) n2 ≡ take (at + 4) n1 ++ w2 → w1 ≡ bytes_of 4 k → w2 ≡ bytes_of 4 v → take (at + 8) n2 ≡ take at n0 ++ entry_bytes (k, v)
-entry-placed n0 n1 n2 w1 w2 at k v e1 e2 h1 h2 =
-    let l1 = bytes-length 4 k in
-    let l2 = bytes-length 4 v in
-    let f1 : take (at + 4) n1 ≡ take at n0 ++ bytes_of 4 k = front-more n0 n1 (take at n0) w1 (bytes_of 4 k) at (at + 4) e1 refl h1 (omega arith) in
-    front-more n1 n2 (take at n0 ++ bytes_of 4 k) w2 (bytes_of 4 v) (at + 4) (at + 8) e2 f1 h2 (omega arith) ∙ append_assoc (take at n0) (bytes_of 4 k) (bytes_of 4 v)
-
 -- the pieces of each page
-pub spliced : (h p e q r n1 n2 n3 n4 n5 x2 x4 x5 c : List ℕ) (a i j n m : ℕ)
-    → length c ≡ 224 → length n5 ≡ 224 → length h ≡ 4 → length e ≡ 8 → a ≡ 4 → i ≤ j → j ≤ n → m ≡ n + 1 - (j - i) → m ≤ 26 → n ≤ 26
-    → take a n1 ≡ h
-    → take (a + length x2) n2 ≡ take a n1 ++ x2 → x2 ≡ take (a + 8 * i - a) (drop a c)
-    → take (a + 8 * i + 8) n3 ≡ take (a + 8 * i) n2 ++ e
-    → take (12 + 8 * i + length x4) n4 ≡ take (12 + 8 * i) n3 ++ x4 → x4 ≡ take (a + 8 * n - (a + 8 * j)) (drop (a + 8 * j) c)
-    → take (a + 8 * m + length x5) n5 ≡ take (a + 8 * m) n4 ++ x5 → x5 ≡ take (224 - (a + 8 * m)) (drop (a + 8 * m) c)
-    → n5 ≡ h ++ (part a (8 * i) c ++ (e ++ (part (a + 8 * j) (8 * (n - j)) c ++ drop (a + 8 * m) c)))
-spliced h p e q r n1 n2 n3 n4 n5 x2 x4 x5 c a i j n m lc ln lh le ea ij jn em mm nn e1 e2 h2 e3 e4 h4 e5 h5 =
-    let p2 : x2 ≡ part a (8 * i) c = h2 ∙ between_part a (a + 8 * i) (8 * i) c (omega arith) in
-    let l2 : length (part a (8 * i) c) ≡ 8 * i = part_length a (8 * i) c (omega arith) in
-    let f2 : take (a + 8 * i) n2 ≡ h ++ part a (8 * i) c = front-more n1 n2 h x2 (part a (8 * i) c) a (a + 8 * i) e2 e1 p2 (omega arith) in
-    let s3 : a + 8 * i + 8 ≡ a + 8 * i + length e = omega arith in
-    let g3 : take (a + 8 * i + length e) n3 ≡ take (a + 8 * i) n2 ++ e = ap (λ k. take k n3) (sym s3) ∙ e3 in
-    let f3 : take (12 + 8 * i) n3 ≡ (h ++ part a (8 * i) c) ++ e = front-more n2 n3 (h ++ part a (8 * i) c) e e (a + 8 * i) (12 + 8 * i) g3 f2 refl (omega arith) in
-    let p4 : x4 ≡ part (a + 8 * j) (8 * (n - j)) c = h4 ∙ between_part (a + 8 * j) (a + 8 * n) (8 * (n - j)) c (omega arith) in
-    let l4 : length (part (a + 8 * j) (8 * (n - j)) c) ≡ 8 * (n - j) = part_length (a + 8 * j) (8 * (n - j)) c (omega arith) in
-    let f4 : take (a + 8 * m) n4 ≡ ((h ++ part a (8 * i) c) ++ e) ++ part (a + 8 * j) (8 * (n - j)) c = front-more n3 n4 ((h ++ part a (8 * i) c) ++ e) x4 (part (a + 8 * j) (8 * (n - j)) c) (12 + 8 * i) (a + 8 * m) e4 f3 p4 (omega arith) in
-    let p5 : x5 ≡ drop (a + 8 * m) c = h5 ∙ part-rest (a + 8 * m) 224 c lc in
-    let l5 : length (drop (a + 8 * m) c) ≡ 224 - (a + 8 * m) = simp length-drop (omega arith) in
-    let f5 : take 224 n5 ≡ (((h ++ part a (8 * i) c) ++ e) ++ part (a + 8 * j) (8 * (n - j)) c) ++ drop (a + 8 * m) c = front-more n4 n5 (((h ++ part a (8 * i) c) ++ e) ++ part (a + 8 * j) (8 * (n - j)) c) x5 (drop (a + 8 * m) c) (a + 8 * m) 224 e5 f4 p5 (omega arith) in
-    front-all n5 ((((h ++ part a (8 * i) c) ++ e) ++ part (a + 8 * j) (8 * (n - j)) c) ++ drop (a + 8 * m) c) 224 ln f5
-    ∙ joined5 h (part a (8 * i) c) e (part (a + 8 * j) (8 * (n - j)) c) (drop (a + 8 * m) c)
-  where
-    joined5 : (v w x y z : List ℕ) → (((v ++ w) ++ x) ++ y) ++ z ≡ v ++ (w ++ (x ++ (y ++ z)))
-    joined5 v w x y z = simp append_assoc
-
 pub halved : (h n1 n2 n3 x2 x3 c : List ℕ) (a s k z : ℕ)
     → length c ≡ 224 → length n3 ≡ 224 → a ≡ 4 → k ≡ 104 → z ≡ 108 → s ≤ 108
     → take a n1 ≡ h

@@ -1,8 +1,7 @@
 -- Bodies of the tree kind.
-use Rattle.std.specs.Prelude.{◌≡◌, ℕ, ◌*◌, ◌<◌, ◌≤◌, Bool, true, false, not, ◌&&◌, ◌||◌, List, length, drop, Some, None, ◌==◌, ◌≢◌, nat_eq, nat_le, slice_index, refl}
-use Rattle.std.proofs.Common.{sym, subst, ◌∙◌, arith}
-use Rattle.std.proofs.lemmas.Bool.{cond-false, cond_both, and_parts, leb-true}
-use Rattle.std.proofs.lemmas.Bool.Decides.{nat_tests}
+use Rattle.std.specs.Prelude.{◌≡◌, ℕ, ◌*◌, ◌<◌, ◌≤◌, Bool, true, false, not, ◌&&◌, ◌||◌, List, length, drop, Some, None, ◌==◌, nat_eq, nat_le, slice_index, refl}
+use Rattle.std.proofs.Common.{subst, arith}
+use Rattle.std.proofs.lemmas.Bool.{cond_both, and_parts, leb-true}
 use Rattle.sets.specs.Sets.{size}
 use Rattle.sets.specs.Words.{number, part}
 use Rattle.tree.specs.declared.step.Step.{Step}
@@ -10,22 +9,6 @@ use Rattle.tree.specs.declared.step.Step.TheVariants.{Insert, Lower, Upper, Cut,
 use Rattle.kinds.specs.Kinds.{Scoped}
 use Rattle.kinds.specs.PageSetLaws.{set_below, size-only, size-both}
 use Rattle.tree.specs.Steps.{parse, when, page_pair, insert_from, sets, Ready}
-
-least : (t k n m : ℕ) → (t ≡ k → m ≤ n → ⊥) → (t == k && nat_le m n) ≡ false
-least t k n m h = grind (arith, nat_tests)
-
-exact : (t k n m : ℕ) → (t ≡ k → n ≢ m) → (t == k && n == m) ≡ false
-exact t k n m h = grind (arith, nat_tests)
-
--- a body of none of the five forms
-pub parse-none : (b : List ℕ) → (slice_index b 0 ≡ 1 → 2 ≤ length b → ⊥) → (slice_index b 0 ≡ 2 → length b ≢ 3) → (slice_index b 0 ≡ 3 → length b ≢ 3) → (slice_index b 0 ≡ 4 → length b ≢ 3) → (slice_index b 0 ≡ 5 → length b ≢ 1) → None ≡ parse b
-unfolding parse
-parse-none b h1 h2 h3 h4 h5 =
-    sym (cond-false (slice_index b 0 == 1 && nat_le 2 (length b)) _ _ (least (slice_index b 0) 1 (length b) 2 h1)
-    ∙ cond-false (slice_index b 0 == 2 && length b == 3) _ _ (exact (slice_index b 0) 2 (length b) 3 h2)
-    ∙ cond-false (slice_index b 0 == 3 && length b == 3) _ _ (exact (slice_index b 0) 3 (length b) 3 h3)
-    ∙ cond-false (slice_index b 0 == 4 && length b == 3) _ _ (exact (slice_index b 0) 4 (length b) 3 h4)
-    ∙ cond-false (slice_index b 0 == 5 && length b == 1) _ _ (exact (slice_index b 0) 5 (length b) 1 h5))
 
 -- ---- what a body that is parsed says
 

@@ -34,6 +34,7 @@ fn cut_of(leaf: u8, upper: u8) -> Option<Step>
 
 impl Step {
     // The step that a body says; none where the body is not of the form.
+    #[tactic(auto, using(std::proofs::lemmas::Bool::Decides::nat_tests, std::proofs::lemmas::List::take_rest), unfolding(crate::specs::Steps::parse))]
     pub fn parse(body: &[u8]) -> Option<Step>
         ensures { result ≡ parse_of body.now }
     {

@@ -16,8 +16,8 @@ overflow_add-i g c =
     let f = c.requires.few.0 in
     omega arith
 
-pub splice-requires : goal.splice-requires
-splice-requires g c =
+pub splice-requires-clause-within : goal.splice-requires-clause-within
+splice-requires-clause-within g c =
     let o = g.O.KeyOrder.ordering in
     let es = entries c.args.old.now in
     let k = c.args.entry.key in
@@ -28,7 +28,7 @@ splice-requires g c =
     let s = hit-small k (drop (before o k es) es) in
     let pl = put-length o g.met.O.KeyOrder.ordered k c.args.entry.value es in
     let f = c.requires.few.1 in
-    record { lengths = c.requires.lengths; order = (omega arith, omega arith); within = (omega arith, omega arith) }
+    (omega arith, omega arith)
 
 pub returns : goal.returns
 returns g c =
