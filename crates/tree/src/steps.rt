@@ -20,9 +20,8 @@ fn hit(c: &[u8], i: usize, key: u32) -> bool
     i < count(c) && key_at(c, i) == key
 }
 
-// Whether a key can be put into a page of at most 26 entries.
+// Whether a page with a key put in has at most 26 entries.
 fn fits<O: KeyOrder>(c: &[u8], key: u32) -> bool
-    requires { (length c.now ≡ 224) × (count_of c.now ≤ 26) }
     ensures { (v : ℕ) → result ≡ nat_le (length (put_of O.KeyOrder.ordering key v (entries c.now))) 26 }
 {
     let i = before::<O>(c, key);
