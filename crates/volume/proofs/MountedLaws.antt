@@ -1,5 +1,5 @@
 -- A mount reads the same of ends that were powered on before.
-use Rattle.std.proofs.Common.{◌≡◌, ℕ, zero, suc, ◌+◌, ◌-◌, cond, not, ◌&&◌, eqb, List, [], replicate, Some, None, Ok, Err, Option, Result, sym, refl, ap, ◌∙◌, ap₂}
+use Rattle.std.proofs.Common.{◌≡◌, ℕ, zero, suc, ◌+◌, ◌-◌, ◌≤◌, cond, not, ◌&&◌, eqb, List, [], length, replicate, Some, None, Ok, Err, Option, Result, sym, refl, ap, ◌∙◌, ap₂}
 use Rattle.faults.specs.declared.fault.Fault.{Fault}
 use Rattle.faults.specs.declared.fault.Fault.TheVariants.{NoSuchPage, NoSuchBlock, WrongLength, PowerLost, BodyRefused, WaitingFull, LogFull, NumbersSpent, PagesRefused, PageClean, GroupBefore, RecordWaiting, BadHeader, TooShort, BadRecord, SetsDiffer, PartlyInstalled, NumberAhead, RedoRefused, RootFull, NotFilePage, NotTreePage}
 use Rattle.faults.specs.Faults.{Report, report}
@@ -130,9 +130,9 @@ fault-back (NotFilePage p) = refl
 fault-back (NotTreePage p) = refl
 
 -- a refused mount has blank pages and no operations
-pub halted-blank : (e : Ends) (pages : WorkingPages) (ops : DirtyOps) (f : Fault) → pages.images ≡ replicate 16384 0 → dirty ops ≡ []
-    → up_by e (record { rebuilt = record { pages = pages; dirty = ops }; first = 1; next = 1 }) (Err f) ≡ mounted_halted e (report f)
-halted-blank e pages ops f ep eo =
+pub halted-blank : (e : Ends) (pages : WorkingPages) (ops : DirtyOps) (few : length (dirty ops) ≤ 128) (f : Fault) → pages.images ≡ replicate 16384 0 → dirty ops ≡ []
+    → up_by e (record { rebuilt = record { pages = pages; dirty = ops; few = few }; first = 1; next = 1 }) (Err f) ≡ mounted_halted e (report f)
+halted-blank e pages ops few f ep eo =
     ap₂ (λ x o. record {
       log = powered e.log;
       store = revived e.store;

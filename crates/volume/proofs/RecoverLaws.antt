@@ -1,7 +1,7 @@
 -- The steps of a mount: the first of several faults, pages taken one by one.
 use Rattle.std.proofs.Common.{◌≡◌, ℕ, zero, suc, ◌+◌, ◌-◌, ◌<◌, ◌≤◌, Bool, true, false, cond, not, ◌&&◌, eqb, ltb, leb, List, [], ◌∷◌, ◌++◌, length, Some, None, Ok, Err, Option, Result, sym, refl, ap, ◌∙◌, ap₂, inl, inr, arith}
 use Rattle.std.proofs.lemmas.List.{length-append}
-use Rattle.std.proofs.lemmas.Bool.{cases_lt, cases_eq, eq-eqb, ne_eqb, lt-ltb, le-ltb, le-leb, lt-leb, cond-true, cond-false, cond_both}
+use Rattle.std.proofs.lemmas.Bool.{cases_lt, cases_eq, eq-eqb, ne_eqb, lt-ltb, le-ltb, cond-true, cond-false, cond_both}
 use Rattle.faults.specs.declared.fault.Fault.TheVariants.{NumberAhead, PartlyInstalled}
 use Rattle.faults.specs.Faults.{Report, report}
 use Rattle.media.specs.Media.{Device, check}
@@ -9,8 +9,9 @@ use Rattle.kinds.specs.Kinds.{Meaning}
 use Rattle.logblocks.specs.Blocks.{Entry, entry_of, is_record_block, record_in}
 use Rattle.graph.specs.declared.op.Op.{Op}
 use Rattle.redo.specs.Recovery.{every}
-use Rattle.std.specs.List.{range_with_len, list_all}
-use Rattle.std.proofs.lemmas.List.Folds.{list_all-append}
+use Rattle.std.specs.List.{range_with_len, list_all, find}
+use Rattle.std.specs.Option.{option_map, option_or}
+use Rattle.std.proofs.lemmas.List.Folds.{list_all-append, find-append}
 use Rattle.volume.specs.Working.{image_at, number_of, taken, replaced, written}
 use Rattle.volume.specs.LogReading.{last_number, bears, end_of, record_block, record_fault}
 use Rattle.volume.specs.Volumes.{Ends, Volume, or_else}
@@ -48,12 +49,6 @@ module _ (f : ℕ → Option Report) where
 module _ (images : ℕ → List ℕ) (next : ℕ) where
   abbrev pub ahead : ℕ → Option Report
   ahead p = check (leb next (number_of (images p))) (report (NumberAhead p)) None
-
-  pub ahead-not : (p : ℕ) → number_of (images p) < next → None ≡ ahead p
-  ahead-not p l = sym (ap (λ t. check t (report (NumberAhead p)) None) (lt-leb next (number_of (images p)) l))
-
-  pub ahead-is : (p : ℕ) → next ≤ number_of (images p) → Some (report (NumberAhead p)) ≡ ahead p
-  ahead-is p l = sym (ap (λ t. check t (report (NumberAhead p)) None) (le-leb next (number_of (images p)) l))
 
 -- ---- the stored images, page by page
 
@@ -103,6 +98,23 @@ every-listed f (suc n) =
     turned true false = refl
     turned false true = refl
     turned false false = refl
+
+-- the fault of the first of the numbers below n that a test finds
+pub first-found : (test : ℕ → Bool) (fault : ℕ → Report) (n : ℕ)
+    → option_map fault (find test (range_with_len 0 n)) ≡ first_fault (λ p. check (test p) (fault p) None) n
+unfolding first_fault
+first-found test fault zero = refl
+first-found test fault (suc n) =
+    let e : 0 + n ≡ n = omega arith in
+    ap (λ xs. option_map fault (find test xs)) (range-more 0 n) ∙ ap (option_map fault) (find-append test (range_with_len 0 n) ((0 + n) ∷ []))
+    ∙ ap (λ k. option_map fault (option_or (find test (range_with_len 0 n)) (find test (k ∷ [])))) e
+    ∙ go (find test (range_with_len 0 n)) (test n)
+    ∙ ap (λ o. or_else o (check (test n) (fault n) None)) (first-found test fault n)
+  where
+    go : (o : Option ℕ) (b : Bool) → option_map fault (option_or o (cond b (Some n) None)) ≡ or_else (option_map fault o) (cond b (Some (fault n)) None)
+    go (Some x) b = refl
+    go None true = refl
+    go None false = refl
 
 -- ---- one record
 

@@ -106,7 +106,11 @@ impl WorkingPages {
     pub(crate) fn check_numbers(&self, next: u32) -> Result<(), Fault>
         ensures { refusal result ≡ ahead_fault (image_at self.now.images) next }
     {
-        match (0..64u32).find(|number| self.number(Page { number: *number }) >= next) {
+        match (0..64u32).find(
+            |number|
+                requires { number.now < 64 }
+            { self.number(Page { number: *number }) >= next },
+        ) {
             Some(page) => Err(Fault::NumberAhead(page)),
             None => Ok(()),
         }

@@ -20,7 +20,7 @@ impl<K: Kind, L: Medium, S: PageStore> Up<K, L, S> {
     pub(crate) fn first_waiting(&self) -> u32
         ensures { result ≡ self.now.next - length (waiting_of self.now.waiting) }
     {
-        self.next.saturating_sub(self.waiting.len() as u32)
+        (self.next as usize).saturating_sub(self.waiting.len()) as u32
     }
 
     // What keeps a page from being flushed.

@@ -28,9 +28,8 @@ fn write_records<L: Medium>(log: &mut L, blocks: &[[u8; BLOCK]]) -> (usize, Resu
     ensures { Logged (L.Medium.model log.old) blocks.now (refusal result.1) (L.Medium.model log.new) (drop result.0 blocks.now) }
 {
     for (i, block) in blocks.iter().enumerate() {
-        let outcome = write_record(log, block);
-        if outcome.is_err() {
-            return (i, outcome);
+        if let Err(fault) = write_record(log, block) {
+            return (i, Err(fault));
         }
     }
     (blocks.len(), Ok(()))

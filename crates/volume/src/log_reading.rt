@@ -26,7 +26,10 @@ fn check_record<K: Kind>(n: u32, block: &[u8]) -> Result<(), Fault>
     let Some(record) = Record::parse(block) else {
         return Err(Fault::BadRecord(n, 0));
     };
-    let operation = Operation::<K>::of(n, record.body).map_err(|refusal| Fault::BadRecord(n, refusal.code()))?;
+    let operation = Operation::<K>::of(n, record.body).map_err(|refusal| Fault::BadRecord(
+        n,
+        refusal.code(),
+    ))?;
     if operation.record.reads == record.reads && operation.record.writes == record.writes {
         Ok(())
     } else {

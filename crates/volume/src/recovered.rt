@@ -1,4 +1,7 @@
 // What a mount makes in memory.
+ghost use Rattle.std.specs.Prelude.{◌≤◌, length};
+ghost use Rattle.tables.specs.DirtyOps.{dirty as dirty_of};
+
 use crate::pages::WorkingPages;
 use tables::DirtyOps;
 
@@ -7,6 +10,7 @@ use tables::DirtyOps;
 pub(crate) struct Rebuilt {
     pub(crate) pages: WorkingPages,
     pub(crate) dirty: DirtyOps,
+    ghost few: { length (dirty_of dirty) ≤ 128 },
 }
 
 #[derive(Drop)]

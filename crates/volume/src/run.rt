@@ -47,7 +47,9 @@ impl<K: Kind, L: Medium, S: PageStore> Up<K, L, S> {
         if body.len() > LONGEST {
             return Err(Fault::WrongLength(body.len()));
         }
-        let operation = Operation::of(self.next, body).map_err(|refusal| Fault::BodyRefused(refusal.code()))?;
+        let operation = Operation::of(self.next, body).map_err(|refusal| Fault::BodyRefused(
+            refusal.code(),
+        ))?;
         self.check_room()?;
         Ok(operation)
     }

@@ -1,7 +1,8 @@
 use Rattle.std.proofs.Common.{ap, arith}
 use Rattle.faults.specs.Faults.{report}
+use Rattle.tables.specs.DirtyOps.{dirty}
 use Rattle.volume.specs.Working.{image_at}
-use Rattle.volume.specs.Recovering.{ends_of, redone_in}
+use Rattle.volume.specs.Recovering.{ends_of}
 use Rattle.volume.proofs.RecoverLaws.{end_within, numbers-refused, redo_refused}
 use mathlib.Core.Path.{fun_ext}
 use Rattle.std.proofs.lemmas.Result.{err_from_is_err_and}
@@ -31,5 +32,5 @@ returns-in_err-redo_records g c =
     let p = err_from_is_err_and c.from_residual-in_err-redo_records.result c.from_residual-in_err-redo_records.ensures.1 in
     rw (p.1, p.2)
     (redo_refused g.K.Kind.meaning e c.args.first c.end-next.result held c.end-next.ensures
-    (fun_ext c.pages-pages.ensures) c.in_ok-check_records.ensures (report c.in_err-redo_records.field-0.0) (redone_in (record { pages = c.pages-pages.result; dirty = c.none.result }))
+    (fun_ext c.pages-pages.ensures) c.in_ok-check_records.ensures (report c.in_err-redo_records.field-0.0) (record { images = held; ops = dirty c.none.result })
     c.in_ok-check_numbers.ensures (ap (λ ops. record { images = held; ops = ops }) c.none.ensures) c.in_err-redo_records.ensures)

@@ -14,12 +14,12 @@ returns g c =
     let s' = g.S.PageStore.meaning c.power_on.new.store in
     let plan' = g.S.PageStore.plan c.power_on.new.store in
     let waits = waiting c.none.result in
-    let x = c.settled-status.result.0 in
-    let status = c.settled-status.result.1 in
+    let x = c.settled-recovered.result.0 in
+    let status = c.settled-recovered.result.1 in
     record {
       up = up_is g.K.Kind.meaning m m' s s' plan plan' (built waits x status)
           c.power_on.ensures.log c.power_on.ensures.store c.power_on.ensures.plan
-          (built-none waits x status m' s' plan' c.none.ensures ∙ c.settled-status.ensures (ends_of m' s' plan') ∙ c.recover.ensures);
+          (built-none waits x status m' s' plan' c.none.ensures ∙ c.settled-recovered.ensures (ends_of m' s' plan') ∙ c.recover.ensures);
       count = c.len-redone.ensures;
       recovers = mount-recovers g.K.Kind.meaning g.met.K.Kind.lawful (ends_of m s plan);
     }

@@ -1,4 +1,5 @@
-use Rattle.std.proofs.Common.{length, refl, ap, ◌∙◌}
+use Rattle.std.proofs.Common.{length, ap, ◌∙◌, arith}
+use Rattle.kinds.specs.Refusals.{code_of}
 use Rattle.kinds.specs.Kinds.{answer, filled}
 use Rattle.volume.specs.Working.{image_at}
 use Rattle.volume.specs.Performing.{outcome}
@@ -8,14 +9,14 @@ use Rattle.volume.proofs.operation.Operation.perform_with.Goals as goal
 
 pub gather-used-requires : goal.gather-used-requires
 gather-used-requires g c =
-    record { few = reads_few g.K.Kind.meaning g.met.K.Kind.lawful c.args.self.now.record.body.now c.args.self.now.record.reads c.args.self.now.record.writes c.args.self.now.scoped; long = refl }
+    record { few = reads_few g.K.Kind.meaning g.met.K.Kind.lawful c.args.self.now.record.body.now c.args.self.now.record.reads c.args.self.now.record.writes c.args.self.now.scoped }
 
 pub returns : goal.returns
 returns g c =
     let k = g.K.Kind.meaning in
     let images = image_at c.args.pages.now.images in
     let is = reply-gathered k g.met.K.Kind.lawful c.args.self.now.record.body.now c.args.self.now.record.reads c.args.self.now.record.writes c.args.self.now.scoped images c.gather-used.result c.gather-used.new.old (length c.args.new.now)
-    c.gather-used.ensures.used c.gather-used.auto.old c.gather-used.ensures.front c.requires in
+    c.gather-used.ensures.used (omega arith) c.gather-used.ensures.front c.requires in
     let a = c.in_ok-effect.ensures.answer ∙ ap answer is in
     record {
       answer = a;
@@ -28,8 +29,8 @@ returns-in_err-effect g c =
     let k = g.K.Kind.meaning in
     let images = image_at c.args.pages.now.images in
     let is = reply-gathered k g.met.K.Kind.lawful c.args.self.now.record.body.now c.args.self.now.record.reads c.args.self.now.record.writes c.args.self.now.scoped images c.gather-used.result c.gather-used.new.old (length c.args.new.now)
-    c.gather-used.ensures.used c.gather-used.auto.old c.gather-used.ensures.front c.requires in
+    c.gather-used.ensures.used (omega arith) c.gather-used.ensures.front c.requires in
     let a = c.in_err-effect.ensures.answer ∙ ap answer is in
     let p = err_from_is_err_and c.from_residual.result c.from_residual.ensures.1 in
     rw (p.1, p.2)
-    (record { answer = a; images = done-err (outcome k c.args.self.now.record.body.now c.args.self.now.record.reads images) c.in_err-effect.field-0.0 c.args.self.now.record.writes c.args.self.now.record.number images a })
+    (record { answer = a; images = done-err (outcome k c.args.self.now.record.body.now c.args.self.now.record.reads images) (code_of c.in_err-effect.field-0.0) c.args.self.now.record.writes c.args.self.now.record.number images a })

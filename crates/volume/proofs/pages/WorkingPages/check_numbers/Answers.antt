@@ -1,29 +1,29 @@
-use Rattle.std.proofs.Common.{◌≡◌, ap, ◌∙◌, arith}
+use Rattle.std.proofs.Common.{◌≡◌, ℕ, Bool, leb, Some, None, Option, refl, sym, ap, ◌∙◌, rules, tests}
+use Rattle.std.specs.Option.{option_map}
+use Rattle.std.proofs.lemmas.Iterator.{YieldsList-from_range}
+use Rattle.std.proofs.lemmas.Iterator.Search.{find_from_yields_List}
 use Rattle.faults.specs.declared.fault.Fault.TheVariants.{NumberAhead}
-use Rattle.faults.specs.Faults.{report}
-use Rattle.volume.specs.Working.{image_at}
-use Rattle.volume.specs.Mounting.{first_fault}
-use Rattle.volume.proofs.RecoverLaws.{ahead, no_fault_yet, fault-none, fault-here, ahead-not, ahead-is}
+use Rattle.faults.specs.Faults.{Report, report}
+use Rattle.volume.specs.Working.{image_at, number_of}
+use Rattle.volume.specs.Mounting.{ahead_fault}
+use Rattle.volume.proofs.RecoverLaws.{first-found}
 use Rattle.volume.proofs.pages.WorkingPages.check_numbers.Goals as goal
+use Rattle.volume.proofs.pages.WorkingPages.check_numbers.Goals.{After-find}
 
-pub loop-page-init : goal.loop-page-init
-loop-page-init c = no_fault_yet (ahead (image_at c.args.self.now.images) c.args.next)
+same : (o : Option ℕ) → o ≡ option_map (λ x. x) o
+same None = refl
+same (Some x) = refl
 
-pub loop-page-preserved : goal.loop-page-preserved
-loop-page-preserved c =
-    let images = image_at c.args.self.now.images in
-    let p = c.loop-page.page in
-    fault-none (ahead images c.args.next) p c.loop-page.invariant
-    (ahead-not images c.args.next p (omega (arith, c.if-number-next.false, c.number.ensures)))
+-- what the search finds is what the first check at fault is
+found : (c : After-find) → option_map (λ p. report (NumberAhead p)) c.find.result ≡ ahead_fault (image_at c.args.self.now.images) c.args.next
+found c =
+    let test : ℕ → Bool = λ p. leb c.args.next (number_of (image_at c.args.self.now.images p)) in
+    let fault : ℕ → Report = λ p. report (NumberAhead p) in
+    let first = find_from_yields_List test _ _ c.find.result c.find.ensures.ran (YieldsList-from_range 0 64 64 refl refl) (λ x b q k. search (rules, tests)) in
+    ap (option_map fault) (same c.find.result ∙ first) ∙ first-found test fault 64
 
-pub returns-then-number-next : goal.returns-then-number-next
-returns-then-number-next c =
-    let images = image_at c.args.self.now.images in
-    let p = c.loop-page.page in
-    fault-here (ahead images c.args.next) p 64 (report (NumberAhead p)) c.loop-page-test.true c.loop-page.invariant
-    (ahead-is images c.args.next p (omega (arith, c.if-number-next.true, c.number.ensures)))
+pub returns-in-Some : goal.returns-in-Some
+returns-in-Some c = ap (option_map (λ p. report (NumberAhead p))) (sym c.in-Some.is) ∙ found (goal.at.returns-in-Some c).After-find
 
-pub returns : goal.returns
-returns c =
-    let end : c.loop-page.page ≡ 64 = omega arith in
-    c.loop-page.invariant ∙ ap (first_fault (ahead (image_at c.args.self.now.images) c.args.next)) end
+pub returns-in-None : goal.returns-in-None
+returns-in-None c = ap (option_map (λ p. report (NumberAhead p))) (sym c.in-None.is) ∙ found (goal.at.returns-in-None c).After-find

@@ -5,34 +5,33 @@ use Rattle.volume.specs.Working.{image_at, contents_in}
 use Rattle.volume.proofs.WorkingLaws.{gathered_to, gathered_none, gathered-more, room-more, room_within, place-more}
 use Rattle.volume.proofs.pages.WorkingPages.gather.Goals as goal
 
-pub loop-page-init : goal.loop-page-init
-loop-page-init c = (omega (arith, count_none (has c.args.set)), sym (gathered_none c.args.set (image_at c.args.self.now.images)))
+pub loop-number-init : goal.loop-number-init
+loop-number-init c = (omega (arith, count_none (has c.args.set)), sym (gathered_none c.args.set (image_at c.args.self.now.images)))
 
 pub lift-at-requires : goal.lift-at-requires
 lift-at-requires c =
     let s = c.args.set in
-    let p = c.loop-page.page in
+    let p = c.loop-number.number in
     record {
-      page = c.loop-page-test.true;
-      room = λ e. omega (arith, room-more s p 4 c.loop-page-test.true c.requires.few e);
+      room = λ e. omega (arith, room-more s p 4 c.loop-number-test.true c.requires.few e);
       within = omega (arith, room_within s p 4 (omega arith) c.requires.few);
     }
 
-pub loop-page-preserved : goal.loop-page-preserved
-loop-page-preserved c =
+pub loop-number-preserved : goal.loop-number-preserved
+loop-number-preserved c =
     let s = c.args.set in
-    let p = c.loop-page.page in
+    let p = c.loop-number.number in
     let images = image_at c.args.self.now.images in (
-      c.lift-at.ensures.next ∙ ap (λ a. a + 224 * cond (has s p) 1 0) c.loop-page.invariant.0 ∙ place-more s p,
-      c.lift-at.ensures.front ∙ ap (λ x. x ++ cond (has s p) (contents_in (images p)) []) c.loop-page.invariant.1 ∙ sym (gathered-more s images p),
+      c.lift-at.ensures.next ∙ ap (λ a. a + 224 * cond (has s p) 1 0) c.loop-number.invariant.0 ∙ place-more s p,
+      c.lift-at.ensures.front ∙ ap (λ x. x ++ cond (has s p) (contents_in (images p)) []) c.loop-number.invariant.1 ∙ sym (gathered-more s images p),
     )
 
 pub returns : goal.returns
 returns c =
     let s = c.args.set in
     let images = image_at c.args.self.now.images in
-    let end : c.loop-page.page ≡ 64 = omega arith in
+    let end : c.loop-number.number ≡ 64 = omega arith in
     record {
-      used = c.loop-page.invariant.0 ∙ ap (λ n. 224 * count (has s) n) end;
-      front = c.loop-page.invariant.1 ∙ ap (gathered_to s images) end;
+      used = c.loop-number.invariant.0 ∙ ap (λ n. 224 * count (has s) n) end;
+      front = c.loop-number.invariant.1 ∙ ap (gathered_to s images) end;
     }

@@ -5,7 +5,7 @@ use Rattle.volume.proofs.WorkingLaws.{gathered_to}
 use Rattle.volume.proofs.pages.WorkingPages.gather.Given as goal
 
 -- the contents of the pages so far stand in front
-abbrev pub invariant-loop-page : goal.invariant-loop-page
-invariant-loop-page l =
-    (l.at ≡ 224 * count (has l.set) l.page)
-    × (take l.at l.old ≡ gathered_to l.set (image_at l.self.images) l.page)
+abbrev pub invariant-loop-number : goal.invariant-loop-number
+invariant-loop-number l =
+    (l.at ≡ 224 * count (has l.set) l.number)
+    × (take l.at l.old ≡ gathered_to l.set (image_at l.self.images) l.number)

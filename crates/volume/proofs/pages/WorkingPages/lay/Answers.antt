@@ -1,4 +1,4 @@
-use Rattle.std.proofs.Common.{◌≡◌, ◌+◌, ◌-◌, ◌*◌, cond, take, drop, sym, ap, ◌∙◌, arith}
+use Rattle.std.proofs.Common.{◌+◌, ◌*◌, cond, sym, ap, ◌∙◌}
 use Rattle.std.proofs.lemmas.Bool.{cond-true}
 use Rattle.sets.specs.Sets.{has}
 use Rattle.sets.specs.Words.{part}
@@ -10,14 +10,13 @@ returns c =
     let images = image_at c.args.self.now.images in
     let new = c.args.new.now in
     let at = c.args.at in
-    let p = c.args.page in
+    let p = c.args.page.number in
     let n = c.args.number in
     let t = c.if-not-contains.ensures in
-    let k : at + 224 - at ≡ 224 = omega arith in
     record {
       next = ap (λ b. at + 224 * cond b 1 0) t;
       images = λ q.
           c.stamp.ensures q
-          ∙ ap (λ j. replaced p (stamped n (take j (drop at new)) (images p)) images q) k
+          ∙ ap (λ x. replaced p (stamped n x (images p)) images q) c.bytes_at.ensures
           ∙ sym (cond-true (has c.args.set p) (replaced p (stamped n (part at 224 new) (images p)) images q) (images q) (sym t));
     }

@@ -15,7 +15,6 @@ lay-at-requires c =
     let s = c.args.set in
     let p = c.loop-page.page in
     record {
-      page = c.loop-page-test.true;
       room = λ e. omega (arith, c.requires.long, room-more s p (size s) c.loop-page-test.true (omega arith) e);
       within = omega (arith, c.requires.long, room_within s p (size s) (omega arith) (omega arith));
     }

@@ -1,4 +1,4 @@
-use Rattle.std.proofs.Common.{cond, eqb, length, ap, ◌∙◌}
+use Rattle.std.proofs.Common.{◌≡◌, ◌<◌, cond, eqb, length, ap, ◌∙◌, arith}
 use Rattle.volume.specs.Working.{image_at}
 use Rattle.volume.proofs.WorkingLaws.{put-length, put-image}
 use Rattle.volume.proofs.pages.WorkingPages.set_image.Goals as goal
@@ -6,10 +6,15 @@ use Rattle.volume.proofs.pages.WorkingPages.set_image.Goals as goal
 pub invariant_of-self : goal.invariant_of-self
 invariant_of-self c =
     let same = c.copy_from_slice.ensures.after in
-    record { sized = put-length c.args.self.now.images c.copy_from_slice.new.self c.args.page c.args.self.now.sized c.requires.page (ap length same ∙ c.requires.long) }
+    let p : c.index-at.result < 64 = omega (arith, c.index-at.ensures) in
+    let long : length c.args.image.now ≡ 256 = omega arith in
+    record { sized = put-length c.args.self.now.images c.copy_from_slice.new.self c.index-at.result c.args.self.now.sized p (ap length same ∙ long) }
 
 pub returns : goal.returns
 returns c = λ q.
     let same = c.copy_from_slice.ensures.after in
-    put-image c.args.self.now.images c.copy_from_slice.new.self c.args.page c.args.self.now.sized c.requires.page (ap length same ∙ c.requires.long) q
-    ∙ ap (λ x. cond (eqb q c.args.page) x (image_at c.args.self.now.images q)) same
+    let images = image_at c.args.self.now.images in
+    let p : c.index-at.result < 64 = omega (arith, c.index-at.ensures) in
+    let long : length c.args.image.now ≡ 256 = omega arith in
+    put-image c.args.self.now.images c.copy_from_slice.new.self c.index-at.result c.args.self.now.sized p (ap length same ∙ long) q
+    ∙ ap (λ x. cond (eqb q c.index-at.result) x (images q)) same ∙ ap (λ p. cond (eqb q p) c.args.image.now (images q)) c.index-at.ensures

@@ -3,19 +3,19 @@ use Rattle.volume.specs.Working.{image_at, replaced}
 use Rattle.volume.proofs.RecoverLaws.{taken_to, taken_none, taken_more, taken-all}
 use Rattle.volume.proofs.store_reader.StoreReader.pages.Goals as goal
 
-pub loop-page-init : goal.loop-page-init
-loop-page-init g c = λ q. taken_none (g.S.PageStore.meaning c.args.self.now.store.now).image (image_at c.blank-pages.result.images) q
+pub loop-number-init : goal.loop-number-init
+loop-number-init g c = λ q. taken_none (g.S.PageStore.meaning c.args.self.now.store.now).image (image_at c.blank-pages.result.images) q
 
-pub loop-page-preserved : goal.loop-page-preserved
-loop-page-preserved g c = λ q.
+pub loop-number-preserved : goal.loop-number-preserved
+loop-number-preserved g c = λ q.
     let images = (g.S.PageStore.meaning c.args.self.now.store.now).image in
-    let p = c.loop-page.page in
-    let cur = image_at c.loop-page.pages.images in
-    taken_more images p cur (image_at c.set_image.new.self.images) c.loop-page.invariant
+    let p = c.loop-number.number in
+    let cur = image_at c.loop-number.pages.images in
+    taken_more images p cur (image_at c.set_image.new.self.images) c.loop-number.invariant
     (λ r. c.set_image.ensures r ∙ ap (λ x. replaced p x cur r) c.image.ensures) q
 
 pub returns : goal.returns
 returns g c = λ q.
     let images = (g.S.PageStore.meaning c.args.self.now.store.now).image in
-    let end : c.loop-page.page ≡ 64 = omega arith in
-    taken-all images c.loop-page.pages.images c.loop-page.pages.sized (λ r. c.loop-page.invariant r ∙ ap (λ k. taken_to images k (image_at c.loop-page.pages.images) r) end) q
+    let end : c.loop-number.number ≡ 64 = omega arith in
+    taken-all images c.loop-number.pages.images c.loop-number.pages.sized (λ r. c.loop-number.invariant r ∙ ap (λ k. taken_to images k (image_at c.loop-number.pages.images) r) end) q
