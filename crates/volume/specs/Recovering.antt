@@ -4,7 +4,9 @@ use Rattle.faults.specs.declared.fault.Fault.{Fault}
 use Rattle.faults.specs.Faults.{Report, report}
 use Rattle.tables.specs.DirtyOps.{dirty}
 use Rattle.media.specs.Media.{Device, powered}
+use Rattle.media.specs.declared.medium.Medium as Medium
 use Rattle.stores.specs.Stores.{Store, powered as revived}
+use Rattle.stores.specs.declared.store.PageStore as PageStore
 use Rattle.volume.specs.declared.recovered.Rebuilt.{Rebuilt}
 use Rattle.volume.specs.declared.recovered.Recovered.{Recovered}
 use Rattle.volume.specs.Statuses.{Status}
@@ -23,6 +25,10 @@ comes_to (Err f) s = Err (report f)
 
 abbrev pub ends_of : Device → Store → (ℕ → List ℕ) → Ends
 ends_of m s plan = record { log = m; store = s; plan = plan }
+
+-- the same by what is told of the log's medium and of the store
+abbrev pub ends_over : {L S : Type 0} → Medium.Ghosts L → PageStore.Ghosts S → L → S → Ends
+ends_over log store l s = ends_of (log.model l) (store.meaning s) (store.plan s)
 
 -- the up volume of two ends that are powered on, with what is in memory and its status
 abbrev pub up_by : Ends → Recovered → Status → Volume

@@ -10,15 +10,13 @@ ghost use Rattle.volume.specs.Formatting.{too_short};
 ghost use Rattle.volume.specs.Mounting.{ahead_fault};
 
 use crate::log_reader::LogReader;
-use crate::pages::WorkingPages;
+use crate::pages::{IMAGE, WorkingPages};
 use crate::store_reader::StoreReader;
 use faults::Fault;
 use logblocks::read_header;
 use media::{BLOCK, Medium};
 use sets::Page;
 use stores::PageStore;
-
-const IMAGE: usize = 256;
 
 // The blocks that a log needs.
 pub(crate) const LOG_BLOCKS: usize = 129;
@@ -73,9 +71,7 @@ impl<'a, S: PageStore> StoreReader<'a, S> {
         ensures store { IfOk result (λ reader. reader.store.now ≡ store.now) }
     {
         let mut image = [0u8; IMAGE];
-        if store.read(0, &mut image).is_err() {
-            return Err(Fault::TooShort);
-        }
+        store.read(0, &mut image).map_err(|_| Fault::TooShort)?;
         Ok(StoreReader { store })
     }
 

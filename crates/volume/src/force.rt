@@ -4,7 +4,7 @@ ghost use Rattle.faults.specs.Faults.{refusal};
 ghost use Rattle.media.specs.Media.{Wrote};
 ghost use Rattle.volume.specs.Working.{number_of};
 ghost use Rattle.volume.specs.LogReading.{place_of};
-ghost use Rattle.volume.specs.Models.{up_model};
+ghost use Rattle.volume.specs.Models.{up_over};
 ghost use Rattle.volume.specs.Volumes.{noted};
 ghost use Rattle.volume.specs.Forcing.{Logged, Forced};
 
@@ -39,7 +39,7 @@ impl<K: Kind, L: Medium, S: PageStore> Up<K, L, S> {
     // Takes note of how a call ended: where the power failed, a well volume is halted.
     pub(crate) fn settle(&mut self, outcome: Result<(), Fault>) -> Result<(), Fault>
         ensures answer { result ≡ outcome }
-        ensures after { up_model L.Medium.model S.PageStore.meaning S.PageStore.plan self.new ≡ noted (refusal outcome) (up_model L.Medium.model S.PageStore.meaning S.PageStore.plan self.old) }
+        ensures after { up_over L.Medium S.PageStore self.new ≡ noted (refusal outcome) (up_over L.Medium S.PageStore self.old) }
     {
         match (&mut self.status, outcome) {
             (Ok(()), Err(Fault::PowerLost(block))) => {
@@ -52,7 +52,7 @@ impl<K: Kind, L: Medium, S: PageStore> Up<K, L, S> {
 
     // Writes the records that wait, in order; one whose write dies still waits. Answers the next number less 1.
     pub fn force(&mut self) -> Result<u32, Fault>
-        ensures forced { Forced (up_model L.Medium.model S.PageStore.meaning S.PageStore.plan self.old) (refusal result) (up_model L.Medium.model S.PageStore.meaning S.PageStore.plan self.new) }
+        ensures forced { Forced (up_over L.Medium S.PageStore self.old) (refusal result) (up_over L.Medium S.PageStore self.new) }
         ensures number { IfOk result (λ n. n ≡ self.old.next - 1) }
     {
         self.status?;

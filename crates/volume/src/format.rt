@@ -3,7 +3,7 @@ ghost use Rattle.std.specs.Prelude.{◌≡◌};
 ghost use Rattle.faults.specs.Faults.{refusal};
 ghost use Rattle.media.specs.Plans.{Ran};
 ghost use Rattle.stores.specs.Stores.{Installed};
-ghost use Rattle.volume.specs.Models.{down_model};
+ghost use Rattle.volume.specs.Models.{down_over};
 ghost use Rattle.volume.specs.Formatting.{blanks, all_pages, blank_images, format_check, Begun, Formatted};
 
 use crate::down::Down;
@@ -39,7 +39,7 @@ fn blank_store<S: PageStore>(store: &mut S) -> Result<(), Fault>
 impl<K: Kind, L: Medium, S: PageStore> Down<K, L, S> {
     // What keeps a volume from being formatted.
     fn check_format(&self, first: u32) -> Result<(), Fault>
-        ensures { refusal result ≡ format_check first (down_model L.Medium.model S.PageStore.meaning S.PageStore.plan self.now) }
+        ensures { refusal result ≡ format_check first (down_over L.Medium S.PageStore self.now) }
     {
         if first == 0 {
             return Err(Fault::BadHeader);
@@ -50,7 +50,7 @@ impl<K: Kind, L: Medium, S: PageStore> Down<K, L, S> {
 
     // Powers both ends on, blanks the log, installs blank images and writes the header.
     fn begin(&mut self, first: u32) -> Result<(), Fault>
-        ensures { Begun first (down_model L.Medium.model S.PageStore.meaning S.PageStore.plan self.old) (refusal result) (down_model L.Medium.model S.PageStore.meaning S.PageStore.plan self.new) }
+        ensures { Begun first (down_over L.Medium S.PageStore self.old) (refusal result) (down_over L.Medium S.PageStore self.new) }
     {
         self.log.power_on();
         self.store.power_on();
@@ -61,7 +61,7 @@ impl<K: Kind, L: Medium, S: PageStore> Down<K, L, S> {
 
     // Makes a new volume, empty, whose first operation will bear the number `first`.
     pub fn format(&mut self, first: u32) -> Result<(), Fault>
-        ensures { Formatted first (down_model L.Medium.model S.PageStore.meaning S.PageStore.plan self.old) (refusal result) (down_model L.Medium.model S.PageStore.meaning S.PageStore.plan self.new) }
+        ensures { Formatted first (down_over L.Medium S.PageStore self.old) (refusal result) (down_over L.Medium S.PageStore self.new) }
     {
         self.check_format(first)?;
         self.begin(first)

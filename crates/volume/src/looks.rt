@@ -4,7 +4,7 @@ ghost use Rattle.faults.specs.Faults.{refusal};
 ghost use Rattle.tables.specs.Waiting.{waiting as waiting_of};
 ghost use Rattle.tables.specs.DirtyOps.{dirty as dirty_of};
 ghost use Rattle.volume.specs.Working.{image_at};
-ghost use Rattle.volume.specs.Models.{up_model};
+ghost use Rattle.volume.specs.Models.{up_over};
 ghost use Rattle.volume.specs.Volumes.{page_fault, filled_with, group_fault, Told};
 
 use crate::down::Down;
@@ -18,7 +18,7 @@ use stores::PageStore;
 impl<K: Kind, L: Medium, S: PageStore> Up<K, L, S> {
     // Copies a page's working image into a buffer.
     pub fn page(&self, page: u32, buffer: &mut [u8]) -> Result<(), Fault>
-        ensures answer { refusal result ≡ page_fault (up_model L.Medium.model S.PageStore.meaning S.PageStore.plan self.now) page buffer.old }
+        ensures answer { refusal result ≡ page_fault (up_over L.Medium S.PageStore self.now) page buffer.old }
         ensures buffer { buffer.new ≡ filled_with (refusal result) (image_at self.now.pages.images page) buffer.old }
     {
         self.status?;
@@ -32,15 +32,23 @@ impl<K: Kind, L: Medium, S: PageStore> Up<K, L, S> {
 
     // A page's group, and the set of all pages in groups directly before it; both empty if the page is clean.
     pub fn group(&self, page: u32) -> Result<(u64, u64), Fault>
-        ensures answer { refusal result ≡ group_fault (up_model L.Medium.model S.PageStore.meaning S.PageStore.plan self.now) page }
+        ensures answer { refusal result ≡ group_fault (up_over L.Medium S.PageStore self.now) page }
         ensures told { IfOk result (Told (dirty_of self.now.dirty) page) }
     {
         self.status?;
-        if page >= 64 {
-            return Err(Fault::NoSuchPage(page));
-        }
+        let page = Page::new(page).ok_or(Fault::NoSuchPage(page))?;
+        Ok(self.told(page))
+    }
+
+    // The group of a page that there is, and the set of all pages in groups directly before it.
+    pub(crate) fn told(&self, page: Page) -> (u64, u64)
+        ensures { Told (dirty_of self.now.dirty) page.number result }
+    {
         let ops = self.dirty.list();
-        Ok((graph::group(ops, page), graph::before(ops, page)))
+        (
+            graph::group(ops, page.number),
+            graph::before(ops, page.number),
+        )
     }
 
     // Hands back the down volume; drops the records that wait, and answers how many.

@@ -3,7 +3,7 @@ ghost use Rattle.std.specs.Prelude.{◌≡◌, length};
 ghost use Rattle.tables.specs.DirtyOps.{dirty as dirty_of};
 ghost use Rattle.volume.specs.Volumes.{Ends};
 ghost use Rattle.volume.specs.Statuses.{halted_by};
-ghost use Rattle.volume.specs.Models.{up_model, down_model};
+ghost use Rattle.volume.specs.Models.{up_over, down_over};
 ghost use Rattle.volume.specs.Mounting.{mounted};
 ghost use Rattle.volume.specs.Surviving.{MountRecovers};
 ghost use Rattle.volume.specs.Recovering.{up_by, up_with, report_of};
@@ -44,9 +44,9 @@ impl<K: Kind, L: Medium, S: PageStore> Down<K, L, S> {
     // Takes the down volume whole and hands back an up one, and how many records it redid. Both ends are powered on and nothing is
     // written. Refused, the up volume is halted with that fault, its pages are blank and the count is 0.
     pub fn mount(self) -> (Up<K, L, S>, u32)
-        ensures up { up_model L.Medium.model S.PageStore.meaning S.PageStore.plan result.0 ≡ mounted K.Kind.meaning (down_model L.Medium.model S.PageStore.meaning S.PageStore.plan self) }
+        ensures up { up_over L.Medium S.PageStore result.0 ≡ mounted K.Kind.meaning (down_over L.Medium S.PageStore self) }
         ensures count { result.1 ≡ length (dirty_of result.0.dirty) }
-        ensures recovers { MountRecovers K.Kind.meaning (down_model L.Medium.model S.PageStore.meaning S.PageStore.plan self) }
+        ensures recovers { MountRecovers K.Kind.meaning (down_over L.Medium S.PageStore self) }
     {
         let Down {
             mut log,

@@ -9,17 +9,12 @@ ghost use Rattle.volume.specs.Working.{image_at};
 ghost use Rattle.volume.specs.Performing.{outcome, performed};
 
 use crate::operation::Operation;
-use crate::pages::WorkingPages;
+use crate::pages::{CONTENTS, FOUR, WorkingPages};
 use graph::Op;
 use kinds::{Kind, Refusal};
 use logblocks::Record;
 use sets::size;
 use std::marker::PhantomData;
-
-// The contents of four pages.
-const FOUR: usize = 896;
-
-const CONTENTS: usize = 224;
 
 impl<'a, K: Kind> Operation<'a, K> {
     // The operation that a body is, or the code with which the kind refuses it.

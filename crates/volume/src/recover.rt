@@ -1,7 +1,7 @@
 // Recovery: what a mount reads from the two ends and makes of it.
 ghost use Rattle.std.specs.Prelude.{◌≡◌, Some};
 ghost use Rattle.volume.specs.Mounting.{mounted, mounted_at};
-ghost use Rattle.volume.specs.Recovering.{ends_of, up_with};
+ghost use Rattle.volume.specs.Recovering.{ends_over, up_with};
 
 use crate::ends::readers;
 use crate::log_reader::LogReader;
@@ -19,7 +19,7 @@ fn recover_from<K: Kind, L: Medium, S: PageStore>(
     store: &StoreReader<S>,
     first: u32,
 ) -> Result<Recovered, Fault>
-    ensures { up_with (ends_of (L.Medium.model log.now.log.now) (S.PageStore.meaning store.now.store.now) (S.PageStore.plan store.now.store.now)) result ≡ mounted_at K.Kind.meaning (ends_of (L.Medium.model log.now.log.now) (S.PageStore.meaning store.now.store.now) (S.PageStore.plan store.now.store.now)) (Some first) }
+    ensures { up_with (ends_over L.Medium S.PageStore log.now.log.now store.now.store.now) result ≡ mounted_at K.Kind.meaning (ends_over L.Medium S.PageStore log.now.log.now store.now.store.now) (Some first) }
 {
     let next = log.end(first);
     log.check_records::<K>(first, next)?;
@@ -42,11 +42,9 @@ pub(crate) fn recover<K: Kind, L: Medium, S: PageStore>(
     log: &L,
     store: &S,
 ) -> Result<Recovered, Fault>
-    ensures { up_with (ends_of (L.Medium.model log.now) (S.PageStore.meaning store.now) (S.PageStore.plan store.now)) result ≡ mounted K.Kind.meaning (ends_of (L.Medium.model log.now) (S.PageStore.meaning store.now) (S.PageStore.plan store.now)) }
+    ensures { up_with (ends_over L.Medium S.PageStore log.now store.now) result ≡ mounted K.Kind.meaning (ends_over L.Medium S.PageStore log.now store.now) }
 {
     let (records, images) = readers(log, store)?;
-    let Some(first) = records.first_number() else {
-        return Err(Fault::BadHeader);
-    };
+    let first = records.first_number().ok_or(Fault::BadHeader)?;
     recover_from::<K, L, S>(&records, &images, first)
 }

@@ -1,7 +1,7 @@
 // Run: one more operation.
 ghost use Rattle.std.specs.Prelude.{◌≡◌, ◌<◌, ◌≤◌, length, IfOk, Ok, OnOk};
 ghost use Rattle.faults.specs.Faults.{refusal};
-ghost use Rattle.volume.specs.Models.{up_model};
+ghost use Rattle.volume.specs.Models.{up_over};
 ghost use Rattle.volume.specs.Working.{image_at};
 ghost use Rattle.volume.specs.Performing.{outcome};
 ghost use Rattle.volume.specs.Volumes.{admit_fault, room_fault, pages_fault, entered, run_fault, after_run};
@@ -21,7 +21,7 @@ const LONGEST: usize = 232;
 impl<K: Kind, L: Medium, S: PageStore> Up<K, L, S> {
     // Room in memory, room in the log, a number left.
     fn check_room(&self) -> Result<(), Fault>
-        ensures answer { refusal result ≡ room_fault (up_model L.Medium.model S.PageStore.meaning S.PageStore.plan self.now) }
+        ensures answer { refusal result ≡ room_fault (up_over L.Medium S.PageStore self.now) }
         ensures left { OnOk result (self.now.next < 4294967295) }
     {
         if self.waiting.len() >= 16 {
@@ -38,7 +38,7 @@ impl<K: Kind, L: Medium, S: PageStore> Up<K, L, S> {
 
     // The checks of a run ahead of the pages; the operation of the body, which will bear the next number.
     fn admit<'a>(&self, body: &'a [u8]) -> Result<Operation<'a, K>, Fault>
-        ensures answer { refusal result ≡ admit_fault K.Kind.meaning (up_model L.Medium.model S.PageStore.meaning S.PageStore.plan self.now) body.now }
+        ensures answer { refusal result ≡ admit_fault K.Kind.meaning (up_over L.Medium S.PageStore self.now) body.now }
         ensures made { IfOk result (λ o. (o.record.number ≡ self.now.next) × (o.record.body.now ≡ body.now)) }
         ensures long { OnOk result (length body.now ≤ 232) }
         ensures left { OnOk result (self.now.next < 4294967295) }
@@ -61,7 +61,7 @@ impl<K: Kind, L: Medium, S: PageStore> Up<K, L, S> {
         requires left { self.old.next < 4294967295 }
         ensures answer { refusal result ≡ pages_fault (outcome K.Kind.meaning operation.now.record.body.now operation.now.record.reads (image_at self.old.pages.images)) }
         ensures number { IfOk result (λ n. n ≡ self.old.next) }
-        ensures after { up_model L.Medium.model S.PageStore.meaning S.PageStore.plan self.new ≡ entered (outcome K.Kind.meaning operation.now.record.body.now operation.now.record.reads (image_at self.old.pages.images)) operation.now.record.body.now operation.now.record.reads operation.now.record.writes (up_model L.Medium.model S.PageStore.meaning S.PageStore.plan self.old) }
+        ensures after { up_over L.Medium S.PageStore self.new ≡ entered (outcome K.Kind.meaning operation.now.record.body.now operation.now.record.reads (image_at self.old.pages.images)) operation.now.record.body.now operation.now.record.reads operation.now.record.writes (up_over L.Medium S.PageStore self.old) }
     {
         operation
             .perform(&mut self.pages)
@@ -75,9 +75,9 @@ impl<K: Kind, L: Medium, S: PageStore> Up<K, L, S> {
 
     // Runs an operation: the working pages take its contents and its number, and its record waits. Answers its number.
     pub fn run(&mut self, body: &[u8]) -> Result<u32, Fault>
-        ensures answer { refusal result ≡ run_fault K.Kind.meaning (up_model L.Medium.model S.PageStore.meaning S.PageStore.plan self.old) body.now }
+        ensures answer { refusal result ≡ run_fault K.Kind.meaning (up_over L.Medium S.PageStore self.old) body.now }
         ensures number { IfOk result (λ n. n ≡ self.old.next) }
-        ensures after { up_model L.Medium.model S.PageStore.meaning S.PageStore.plan self.new ≡ after_run K.Kind.meaning (up_model L.Medium.model S.PageStore.meaning S.PageStore.plan self.old) body.now }
+        ensures after { up_over L.Medium S.PageStore self.new ≡ after_run K.Kind.meaning (up_over L.Medium S.PageStore self.old) body.now }
     {
         let operation = self.admit(body)?;
         self.enter(&operation)

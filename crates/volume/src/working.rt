@@ -5,17 +5,11 @@ ghost use Rattle.sets.specs.Words.{part};
 ghost use Rattle.redo.specs.Recovery.{every};
 ghost use Rattle.volume.specs.Working.{image_at, number_of, contents_in, gathered, stamped, written, replaced};
 
-use crate::pages::{IMAGES, WorkingPages};
+use crate::pages::{CONTENTS, FOUR, IMAGE, IMAGES, WorkingPages};
 use sets::{Number, Page, contains};
 
-const IMAGE: usize = 256;
-
+// The bytes of a page's number, in front of its contents.
 const NUMBER: usize = 4;
-
-const CONTENTS: usize = 224;
-
-// The contents of four pages.
-const FOUR: usize = 896;
 
 // The N bytes from place `at` on.
 fn bytes_at<const N: usize>(bytes: &[u8], at: usize) -> &[u8; N]

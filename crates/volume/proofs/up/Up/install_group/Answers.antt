@@ -1,7 +1,7 @@
 use Rattle.std.proofs.Common.{length, sym, ap, ◌∙◌}
 use Rattle.faults.specs.Faults.{report, refusal}
 use Rattle.tables.specs.DirtyOps.{dirty}
-use Rattle.volume.specs.Models.{up_model}
+use Rattle.volume.specs.Models.{up_over}
 use Rattle.std.proofs.lemmas.Result.{err_from_is_err_and}
 use Rattle.volume.proofs.RowLaws.{row_back}
 use Rattle.volume.proofs.FlushLaws.{group-refused, group-passed}
@@ -9,8 +9,8 @@ use Rattle.volume.proofs.up.Up.install_group.Goals as goal
 
 pub returns-in_err-settle : goal.returns-in_err-settle
 returns-in_err-settle g c =
-    let v = up_model {K = g.row.K.Denot} g.L.Medium.model g.S.PageStore.meaning g.S.PageStore.plan c.args.self.now in
-    let v₁ = up_model {K = g.row.K.Denot} g.L.Medium.model g.S.PageStore.meaning g.S.PageStore.plan c.settle.new.self in
+    let v = up_over {K = g.row.K.Denot} g.L.Medium g.S.PageStore c.args.self.now in
+    let v₁ = up_over {K = g.row.K.Denot} g.L.Medium g.S.PageStore c.settle.new.self in
     let s = c.install-outcome.new.self in
     let row = row_back c.args.self.now.pages.images (ap length (sym c.all.ensures.bytes) ∙ c.all.ensures.len) ∙ sym c.all.ensures.bytes in
     let p = err_from_is_err_and c.from_residual.result c.from_residual.ensures.1 in
@@ -20,8 +20,8 @@ returns-in_err-settle g c =
 
 pub returns : goal.returns
 returns g c =
-    let v = up_model {K = g.row.K.Denot} g.L.Medium.model g.S.PageStore.meaning g.S.PageStore.plan c.args.self.now in
-    let v₁ = up_model {K = g.row.K.Denot} g.L.Medium.model g.S.PageStore.meaning g.S.PageStore.plan c.settle.new.self in
+    let v = up_over {K = g.row.K.Denot} g.L.Medium g.S.PageStore c.args.self.now in
+    let v₁ = up_over {K = g.row.K.Denot} g.L.Medium g.S.PageStore c.settle.new.self in
     let s = c.install-outcome.new.self in
     let row = row_back c.args.self.now.pages.images (ap length (sym c.all.ensures.bytes) ∙ c.all.ensures.len) ∙ sym c.all.ensures.bytes in
     group-passed v v₁ (refusal c.install-outcome.result) c.args.group c.all.result.now (g.S.PageStore.meaning s) (g.S.PageStore.plan s) row c.install-outcome.ensures.installed c.in_ok-settle.ensures.after

@@ -2,14 +2,14 @@ use Rattle.std.proofs.Common.{sym, ap}
 use Rattle.std.proofs.lemmas.Bool.{eqb-false}
 use Rattle.faults.specs.Faults.{report, refusal}
 use Rattle.std.proofs.lemmas.Result.{err_from_is_err_and}
-use Rattle.volume.specs.Models.{up_model}
+use Rattle.volume.specs.Models.{up_over}
 use Rattle.volume.proofs.TrimLaws.{trim-refused}
 use Rattle.volume.proofs.up.Up.trim.Goals as goal
 
 pub returns-in_err-settle : goal.returns-in_err-settle
 returns-in_err-settle g c =
-    let v = up_model {K = g.row.K.Denot} g.L.Medium.model g.S.PageStore.meaning g.S.PageStore.plan c.args.self.now in
-    let v' = up_model {K = g.row.K.Denot} g.L.Medium.model g.S.PageStore.meaning g.S.PageStore.plan c.settle.new.self in
+    let v = up_over {K = g.row.K.Denot} g.L.Medium g.S.PageStore c.args.self.now in
+    let v' = up_over {K = g.row.K.Denot} g.L.Medium g.S.PageStore c.settle.new.self in
     let p = err_from_is_err_and c.from_residual-in_err-settle.result c.from_residual-in_err-settle.ensures.1 in
     rw (p.1, p.2)
     (record {
