@@ -1,7 +1,6 @@
 // A memory chip with a store on a partition of it, and an install that is cut.
 use crate::survey::{Seen, survey};
-use media::{BLOCK, Left, MemoryMedium, Partition};
-use std::fmt;
+use media::{BLOCK, Left, Medium, MemoryMedium, Partition};
 use stores::{JournalStore, PageStore, ShadowStore};
 
 // A chip of 130 blocks; the store stands on 129 of them, from block 1 on.
@@ -12,18 +11,30 @@ const IMAGES: usize = 16384;
 // Pages 3, 40 and 63.
 const PAGES: u64 = 1 << 3 | 1 << 40 | 1 << 63;
 
-#[derive(Clone, Copy)]
-pub enum Kind {
-    Journal,
-    Shadow,
+// A page store: its name, and an install on a medium of the version after `old`.
+pub trait Store {
+    const NAME: &'static str;
+
+    fn attempt<M: Medium + Drop>(medium: M, old: u8) -> Option<Seen>;
 }
 
-impl fmt::Display for Kind {
-    fn fmt<W: fmt::Write>(&self, f: &mut fmt::Formatter<W>) -> fmt::Result {
-        f.write_str(match self {
-            Kind::Journal => "journal store",
-            Kind::Shadow => "shadow store",
-        })
+pub struct Journal;
+
+impl Store for Journal {
+    const NAME: &'static str = "journal store";
+
+    fn attempt<M: Medium + Drop>(medium: M, old: u8) -> Option<Seen> {
+        install(&mut JournalStore::new(medium), old)
+    }
+}
+
+pub struct Shadow;
+
+impl Store for Shadow {
+    const NAME: &'static str = "shadow store";
+
+    fn attempt<M: Medium + Drop>(medium: M, old: u8) -> Option<Seen> {
+        install(&mut ShadowStore::new(medium), old)
     }
 }
 
@@ -79,27 +90,17 @@ fn install<S: PageStore>(store: &mut S, old: u8) -> Option<Seen> {
     }
 }
 
-// The same on a store over the chip, with a fuse if one is wanted.
-// Kept: a store's type names the borrow of the chip, which is another for each attempt, so no one closure makes them all.
-fn attempt(kind: Kind, bytes: &mut [u8], fuse: Option<Cut>, old: u8) -> Option<Seen> {
-    let medium = medium(bytes, fuse);
-    match kind {
-        Kind::Journal => install(&mut JournalStore::new(medium), old),
-        Kind::Shadow => install(&mut ShadowStore::new(medium), old),
-    }
-}
-
 // On a new chip: installs version 1; then version 2, cut as `earlier` says, if it does; then one version more, cut as `cut` says.
 // None where that fuse did not blow.
-pub fn cut_once(kind: Kind, earlier: Option<Cut>, cut: Cut) -> Option<Seen> {
+pub fn cut_once<S: Store>(earlier: Option<Cut>, cut: Cut) -> Option<Seen> {
     let mut bytes = [0u8; CHIP];
-    let _ = attempt(kind, &mut bytes, None, 0);
+    let _ = S::attempt(medium(&mut bytes, None), 0);
     let old = match earlier {
         None => 1,
         Some(_) => {
-            let _ = attempt(kind, &mut bytes, earlier, 1);
+            let _ = S::attempt(medium(&mut bytes, earlier), 1);
             2
         }
     };
-    attempt(kind, &mut bytes, Some(cut), old)
+    S::attempt(medium(&mut bytes, Some(cut)), old)
 }

@@ -5,7 +5,7 @@ mod chip;
 mod report;
 mod survey;
 
-use chip::{Cut, Kind};
+use chip::{Cut, Journal, Shadow, Store};
 use media::Left;
 use std::io;
 
@@ -13,33 +13,38 @@ use std::io;
 const MOST_WRITES: u64 = 64;
 
 // Every cut of one install; the install before it may itself have been cut, as `earlier` says.
-fn round(rt: &HostRuntime, kind: Kind, earlier: Option<Cut>) -> io::Result<()> {
+fn round<S: Store>(rt: &HostRuntime, earlier: Option<Cut>) -> io::Result<()> {
     let mut all = Vec::new(rt.alloc());
     for write in 0..MOST_WRITES {
         for left in [Left::Old, Left::New] {
             let cut = Cut { write, left };
-            let Some(seen) = chip::cut_once(kind, earlier, cut) else {
-                return report::closing(rt, kind, &all);
+            let Some(seen) = chip::cut_once::<S>(earlier, cut) else {
+                return report::closing(rt, S::NAME, &all);
             };
             report::line(rt, &cut, &seen)?;
             all.push(seen)?;
         }
     }
-    report::closing(rt, kind, &all)
+    report::closing(rt, S::NAME, &all)
+}
+
+// Every cut of an install on a new store, under its name.
+fn headed_round<S: Store>(rt: &HostRuntime) -> io::Result<()> {
+    let store = S::NAME;
+    println!(rt; "")?;
+    println!(rt; "{store}")?;
+    round::<S>(rt, None)
 }
 
 fn main(rt: HostRuntime) -> io::Result<()> {
     println!(rt; "power cut at each block write of an install of pages 3, 40 and 63")?;
-    for kind in [Kind::Journal, Kind::Shadow] {
-        println!(rt; "")?;
-        println!(rt; "{kind}")?;
-        round(&rt, kind, None)?;
-    }
+    headed_round::<Journal>(&rt)?;
+    headed_round::<Shadow>(&rt)?;
     println!(rt; "")?;
     println!(rt; "journal store, cut before at write 6, so that the next install settles first")?;
     let earlier = Cut {
         write: 5,
         left: Left::Old,
     };
-    round(&rt, Kind::Journal, Some(earlier))
+    round::<Journal>(&rt, Some(earlier))
 }

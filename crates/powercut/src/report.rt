@@ -1,5 +1,5 @@
 // The lines that are printed.
-use crate::chip::{Cut, Kind};
+use crate::chip::Cut;
 use crate::survey::{Outcome, Seen};
 use media::Left;
 use std::io;
@@ -26,13 +26,13 @@ fn count(all: &[Seen], outcome: Outcome) -> usize {
     all.iter().filter(|seen| seen.pages == outcome).count()
 }
 
-pub fn closing(rt: &HostRuntime, kind: Kind, all: &[Seen]) -> io::Result<()> {
+pub fn closing(rt: &HostRuntime, store: &str, all: &[Seen]) -> io::Result<()> {
     let cuts = all.len();
     let old = count(all, Outcome::AllOld);
     let new = count(all, Outcome::AllNew);
     let torn = count(all, Outcome::Torn);
     let whole = all.iter().filter(|seen| seen.others).count();
     println!(rt;
-        "{kind}: {cuts} cuts, {old} all old, {new} all new, {torn} torn, others untouched in {whole}"
+        "{store}: {cuts} cuts, {old} all old, {new} all new, {torn} torn, others untouched in {whole}"
     )
 }

@@ -1,7 +1,7 @@
 // Two memory chips of 130 blocks with a volume on them: its log and its store stand on blocks 1 to 129.
 use crate::lives::{Course, live};
 use crate::plan::Plan;
-use media::{Left, MemoryMedium, Partition};
+use media::{Left, Medium, MemoryMedium, Partition};
 use std::alloc::{AllocError, Global};
 use std::fmt;
 use stores::{JournalStore, ShadowStore};
@@ -11,18 +11,48 @@ const CHIP: usize = 33280;
 
 const BLOCKS: usize = 129;
 
-#[derive(Clone, Copy)]
-pub enum Store {
-    Journal,
-    Shadow,
+// A page store: its name, and a life of a volume on it; none where the power fails in the format.
+pub trait Store {
+    const NAME: &'static str;
+
+    fn live<M: Medium + Drop>(
+        heap: Global,
+        log: M,
+        pages: M,
+        plan: &mut Plan,
+        left: Left,
+    ) -> Result<Option<Course>, AllocError>;
 }
 
-impl fmt::Display for Store {
-    fn fmt<W: fmt::Write>(&self, f: &mut fmt::Formatter<W>) -> fmt::Result {
-        f.write_str(match self {
-            Store::Journal => "journal store",
-            Store::Shadow => "shadow store",
-        })
+pub struct Journal;
+
+impl Store for Journal {
+    const NAME: &'static str = "journal store";
+
+    fn live<M: Medium + Drop>(
+        heap: Global,
+        log: M,
+        pages: M,
+        plan: &mut Plan,
+        left: Left,
+    ) -> Result<Option<Course>, AllocError> {
+        live(heap, Down::new(log, JournalStore::new(pages)), plan, left)
+    }
+}
+
+pub struct Shadow;
+
+impl Store for Shadow {
+    const NAME: &'static str = "shadow store";
+
+    fn live<M: Medium + Drop>(
+        heap: Global,
+        log: M,
+        pages: M,
+        plan: &mut Plan,
+        left: Left,
+    ) -> Result<Option<Course>, AllocError> {
+        live(heap, Down::new(log, ShadowStore::new(pages)), plan, left)
     }
 }
 
@@ -72,10 +102,8 @@ fn part<'a>(bytes: &'a mut [u8], chip: Chip, cut: Option<Cut>) -> Partition<Memo
 }
 
 // A life on new chips; none where the power fails in the format.
-// Kept: a store's type names the borrow of the chip, which is another for each life, so no one closure makes them all.
-pub fn run(
+pub fn run<S: Store>(
     heap: Global,
-    store: Store,
     cut: Option<Cut>,
     plan: &mut Plan,
 ) -> Result<Option<Course>, AllocError> {
@@ -83,9 +111,11 @@ pub fn run(
     let mut pages = [0u8; CHIP];
     let log = part(&mut log, Chip::Log, cut);
     let pages = part(&mut pages, Chip::Pages, cut);
-    let left = cut.map_or(Left::Old, |cut| cut.left);
-    match store {
-        Store::Journal => live(heap, Down::new(log, JournalStore::new(pages)), plan, left),
-        Store::Shadow => live(heap, Down::new(log, ShadowStore::new(pages)), plan, left),
-    }
+    S::live(
+        heap,
+        log,
+        pages,
+        plan,
+        cut.map_or(Left::Old, |cut| cut.left),
+    )
 }

@@ -11,7 +11,7 @@ mod report;
 mod script;
 mod tally;
 
-use chips::{Chip, Cut, Store};
+use chips::{Chip, Cut, Journal, Shadow, Store};
 use lives::Course;
 use media::Left;
 use plan::Plan;
@@ -25,35 +25,28 @@ const ORDERS: usize = 6;
 // More writes than a life has on a chip.
 const MOST_WRITES: u64 = 512;
 
-// The sweep of a store.
+// What the sweep has seen.
 #[derive(Drop)]
 struct Sweep<'a> {
     rt: &'a HostRuntime,
-    store: Store,
     tally: Tally,
 }
 
 impl<'a> Sweep<'a> {
-    fn new(rt: &'a HostRuntime, store: Store) -> Sweep<'a> {
+    fn new(rt: &'a HostRuntime) -> Sweep<'a> {
         Sweep {
             rt,
-            store,
             tally: Tally::new(rt.alloc()),
         }
     }
 
-    // A life on new chips; none where the power fails in the format.
-    fn live(&self, cut: Option<Cut>, plan: &mut Plan) -> Result<Option<Course>, AllocError> {
-        chips::run(self.rt.alloc(), self.store, cut, plan)
-    }
-
     // How many writes the format makes on a chip: so many can pass before one dies outside it.
-    fn format_writes(&self, chip: Chip) -> Result<u64, AllocError> {
+    fn format_writes<S: Store>(&self, chip: Chip) -> Result<u64, AllocError> {
         for write in 0..MOST_WRITES {
             let left = Left::Old;
             let mut plan = Plan::new(self.rt.alloc(), 0);
             let cut = Cut { chip, write, left };
-            if self.live(Some(cut), &mut plan)?.is_some() {
+            if chips::run::<S>(self.rt.alloc(), Some(cut), &mut plan)?.is_some() {
                 return Ok(write);
             }
         }
@@ -75,8 +68,8 @@ impl<'a> Sweep<'a> {
     }
 
     // One cut; says whether the write was still of the life.
-    fn one_cut(&mut self, cut: Cut, plan: &mut Plan) -> io::Result<bool> {
-        let Some(course) = self.live(Some(cut), plan)? else {
+    fn one_cut<S: Store>(&mut self, cut: Cut, plan: &mut Plan) -> io::Result<bool> {
+        let Some(course) = chips::run::<S>(self.rt.alloc(), Some(cut), plan)? else {
             self.blame(Some(cut), &"the format died")?;
             return Ok(true);
         };
@@ -95,10 +88,10 @@ impl<'a> Sweep<'a> {
     }
 
     // Every write of a chip from a write on, left old and left new.
-    fn chip_cuts(&mut self, chip: Chip, start: u64, plan: &mut Plan) -> io::Result<()> {
+    fn chip_cuts<S: Store>(&mut self, chip: Chip, start: u64, plan: &mut Plan) -> io::Result<()> {
         for write in start..start.saturating_add(MOST_WRITES) {
             for left in [Left::Old, Left::New] {
-                if !self.one_cut(Cut { chip, write, left }, plan)? {
+                if !self.one_cut::<S>(Cut { chip, write, left }, plan)? {
                     return Ok(());
                 }
             }
@@ -107,27 +100,27 @@ impl<'a> Sweep<'a> {
     }
 
     // The life without a cut, which makes the choices of an order; then every cut of it.
-    fn one_order(&mut self, log: u64, pages: u64, order: usize) -> io::Result<()> {
+    fn one_order<S: Store>(&mut self, log: u64, pages: u64, order: usize) -> io::Result<()> {
         let mut plan = Plan::new(self.rt.alloc(), order);
-        let Some(course) = self.live(None, &mut plan)? else {
+        let Some(course) = chips::run::<S>(self.rt.alloc(), None, &mut plan)? else {
             return self.blame(None, &"the format was refused");
         };
         self.judge(None, &course)?;
         report::order(self.rt, &plan)?;
-        self.chip_cuts(Chip::Log, log, &mut plan)?;
-        self.chip_cuts(Chip::Pages, pages, &mut plan)
+        self.chip_cuts::<S>(Chip::Log, log, &mut plan)?;
+        self.chip_cuts::<S>(Chip::Pages, pages, &mut plan)
     }
 
     // All orders.
-    fn all_orders(&mut self) -> io::Result<()> {
-        let (rt, store) = (self.rt, self.store);
-        let log = self.format_writes(Chip::Log)?;
-        let pages = self.format_writes(Chip::Pages)?;
+    fn all_orders<S: Store>(&mut self) -> io::Result<()> {
+        let (rt, store) = (self.rt, S::NAME);
+        let log = self.format_writes::<S>(Chip::Log)?;
+        let pages = self.format_writes::<S>(Chip::Pages)?;
         println!(rt;
             "{store}, behind the format's {log} writes of the log and {pages} of the store"
         )?;
         for order in 0..ORDERS {
-            self.one_order(log, pages, order)?;
+            self.one_order::<S>(log, pages, order)?;
         }
         report::table(rt, &self.tally)?;
         println!(rt; "")
@@ -137,12 +130,13 @@ impl<'a> Sweep<'a> {
 fn main(rt: HostRuntime) -> io::Result<()> {
     println!(rt; "power cut at each block write of a life of three days, left old and left new")?;
     println!(rt; "")?;
+    let mut journal = Sweep::new(&rt);
+    journal.all_orders::<Journal>()?;
+    let mut shadow = Sweep::new(&rt);
+    shadow.all_orders::<Shadow>()?;
     let mut all = Tally::new(rt.alloc());
-    for store in [Store::Journal, Store::Shadow] {
-        let mut sweep = Sweep::new(&rt, store);
-        sweep.all_orders()?;
-        all.add(&sweep.tally)?;
-    }
+    all.add(&journal.tally)?;
+    all.add(&shadow.tally)?;
     let cuts = all.seen.len();
     let recovered = recovered(&all.seen);
     let wrong = all.wrong;
