@@ -1,7 +1,6 @@
 pub mod WorkingLaws
 pub mod PerformLaws
 pub mod ReadingLaws
-pub mod RunLaws
 pub mod ForceLaws
 pub mod TrimLaws
 pub mod SharedLaws

@@ -1,7 +1,7 @@
 -- The working pages: one image replaced, contents gathered and written.
 use Rattle.std.proofs.Common.{◌≡◌, ℕ, ◌+◌, ◌-◌, ◌*◌, ◌^◌, ◌<◌, ◌≤◌, Bool, true, false, cond, eqb, ltb, List, [], ◌∷◌, ◌++◌, length, get_or, take, drop, set, sym, refl, ap, ◌∙◌, ap₂, inl, inr, arith}
 use borrow.Rule.Slice.PartMut.{put_mid}
-use Rattle.std.proofs.lemmas.List.{length-take, length-drop, drop_all, drop-drop, drop-take, take-take, take_all, take_at, drop_at, append-nil, flat_map_more, get_or-set_same, get_or-set_other}
+use Rattle.std.proofs.lemmas.List.{length-take, length-drop, drop_all, drop-drop, take_all, take_at, drop_at, append-nil, flat_map_more, get_or-set_same, get_or-set_other}
 use Rattle.std.proofs.lemmas.Bool.{cases_lt, cases_eq, eq-eqb, ne_eqb, lt-ltb, le-ltb, cond-true, cond-false}
 use Rattle.std.proofs.lemmas.Bool.Decides.{nat_tests}
 use Rattle.media.proofs.ChunkLaws.{length-chunks, get_d_chunks, chunks-put, length-put}
@@ -57,13 +57,6 @@ module _ (images x : List ℕ) (p : ℕ) (long : length images ≡ 16384) (page 
           image-none put q put-length over
           ∙ sym (cond-false (eqb q p) x (image_at images q) (ne_eqb q p (λ e. omega arith)) ∙ image-none images q long over)
 
--- a part of the images is a page's image
-pub page-part : (images : List ℕ) (p : ℕ) → take (p * 256 + 256 - p * 256) (drop (p * 256) images) ≡ image_at images p
-page-part images p =
-    let k : p * 256 + 256 - p * 256 ≡ 256 = omega arith in
-    let a : p * 256 ≡ 256 * p = omega arith in
-    ap (λ n. take n (drop (p * 256) images)) k ∙ ap (λ n. take 256 (drop n images)) a
-
 -- ---- contents gathered
 
 module _ (at : ℕ) (old front contents : List ℕ) where
@@ -71,15 +64,6 @@ module _ (at : ℕ) (old front contents : List ℕ) where
   pub lifted : at + 224 ≤ length old → length contents ≡ 224 → front ≡ take at old
       → take (at + 224) (put_mid at (at + 224 - at) old contents) ≡ front ++ contents
   lifted h e f = take-put_mid at (at + 224 - at) old contents (at + 224) (omega arith) (omega arith) ∙ ap (λ x. x ++ contents) (sym f)
-
--- the contents within an image
-pub contents-part : (images : List ℕ) (p : ℕ) → take (p * 256 + 4 + 224 - (p * 256 + 4)) (drop (p * 256 + 4) images) ≡ contents_in (image_at images p)
-contents-part images p =
-    let k : p * 256 + 4 + 224 - (p * 256 + 4) ≡ 224 = omega arith in
-    let a : p * 256 + 4 ≡ 256 * p + 4 = omega arith in
-    ap (λ n. take n (drop (p * 256 + 4) images)) k ∙ ap (λ n. take 224 (drop n images)) a
-    ∙ ap (take 224) (sym (drop-drop 4 (256 * p) images))
-    ∙ sym (ap (take 224) (drop-take 4 252 (drop (256 * p) images)) ∙ take-take 224 252 (drop 4 (drop (256 * p) images)) (omega arith))
 
 -- the loop: the contents of the pages below n
 module _ (set' : ℕ) (images : ℕ → List ℕ) where

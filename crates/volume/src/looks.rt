@@ -45,10 +45,9 @@ impl<K: Kind, L: Medium, S: PageStore> Up<K, L, S> {
         ensures { Told (dirty_of self.now.dirty) page.number result }
     {
         let ops = self.dirty.list();
-        (
-            graph::group(ops, page.number),
-            graph::before(ops, page.number),
-        )
+        let group = graph::group(ops, page.number);
+        let before = graph::before(ops, page.number);
+        (group, before)
     }
 
     // Hands back the down volume; drops the records that wait, and answers how many.

@@ -83,6 +83,7 @@ impl WorkingPages {
 
 impl WorkingPages {
     // Copies the contents of one page to place `at`, if the page is in the set; answers the place behind them.
+    // Kept: the place is no index of a loop, it moves on past the pages of the set alone: their contents stand close together.
     fn lift(&self, set: u64, page: Page, old: &mut [u8], at: usize) -> usize
         requires room { has set page.number ≡ true → at + 224 ≤ length old.old }
         requires within { at ≤ length old.old }
@@ -128,6 +129,7 @@ impl WorkingPages {
     }
 
     // Gives one page its share of the new contents, if it is in the set; answers the place behind it.
+    // Kept: the place moves on past the pages of the set alone, as in `lift`.
     fn lay(&mut self, set: u64, number: u32, new: &[u8], page: Page, at: usize) -> usize
         requires room { has set page.number ≡ true → at + 224 ≤ length new.now }
         requires within { at ≤ length new.now }

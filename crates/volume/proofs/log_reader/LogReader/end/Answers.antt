@@ -1,12 +1,6 @@
-use Rattle.std.proofs.Common.{◌≡◌, ◌+◌, ◌-◌, sym, ap, ◌∙◌, arith}
-use Rattle.volume.specs.LogReading.{end_of}
+use Rattle.std.proofs.Common.{◌≡◌, ◌+◌, ◌-◌, sym, ◌∙◌, arith}
 use Rattle.volume.proofs.ReadingLaws.{end_here, end_on, end_full}
 use Rattle.volume.proofs.log_reader.LogReader.end.Goals as goal
-
-pub loop-n-init : goal.loop-n-init
-loop-n-init g c =
-    let z : c.args.first + 128 - c.args.first ≡ 128 = omega arith in
-    ap (end_of (g.L.Medium.model c.args.self.now.log.now) c.args.first) z
 
 pub loop-n-preserved : goal.loop-n-preserved
 loop-n-preserved g c =

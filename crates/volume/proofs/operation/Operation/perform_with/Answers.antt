@@ -4,12 +4,8 @@ use Rattle.kinds.specs.Kinds.{answer, filled}
 use Rattle.volume.specs.Working.{image_at}
 use Rattle.volume.specs.Performing.{outcome}
 use Rattle.std.proofs.lemmas.Result.{err_from_is_err_and}
-use Rattle.volume.proofs.PerformLaws.{reads_few, reply-gathered, done_ok, done-err}
+use Rattle.volume.proofs.PerformLaws.{reply-gathered, done_ok, done-err}
 use Rattle.volume.proofs.operation.Operation.perform_with.Goals as goal
-
-pub gather-used-requires : goal.gather-used-requires
-gather-used-requires g c =
-    record { few = reads_few g.K.Kind.meaning g.met.K.Kind.lawful c.args.self.now.record.body.now c.args.self.now.record.reads c.args.self.now.record.writes c.args.self.now.scoped }
 
 pub returns : goal.returns
 returns g c =

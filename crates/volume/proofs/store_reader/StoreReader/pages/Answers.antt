@@ -1,10 +1,7 @@
 use Rattle.std.proofs.Common.{◌≡◌, ap, ◌∙◌, arith}
 use Rattle.volume.specs.Working.{image_at, replaced}
-use Rattle.volume.proofs.RecoverLaws.{taken_to, taken_none, taken_more, taken-all}
+use Rattle.volume.proofs.RecoverLaws.{taken_to, taken_more, taken-all}
 use Rattle.volume.proofs.store_reader.StoreReader.pages.Goals as goal
-
-pub loop-number-init : goal.loop-number-init
-loop-number-init g c = λ q. taken_none (g.S.PageStore.meaning c.args.self.now.store.now).image (image_at c.blank-pages.result.images) q
 
 pub loop-number-preserved : goal.loop-number-preserved
 loop-number-preserved g c = λ q.
