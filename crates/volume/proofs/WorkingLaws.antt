@@ -1,5 +1,8 @@
 -- The working pages: one image replaced, contents gathered and written.
-use Rattle.std.proofs.Common.{◌≡◌, ℕ, ◌+◌, ◌-◌, ◌*◌, ◌^◌, ◌<◌, ◌≤◌, Bool, true, false, cond, eqb, ltb, List, [], ◌∷◌, ◌++◌, length, get_or, take, drop, set, sym, refl, ap, ◌∙◌, ap₂, inl, inr, arith}
+use Rattle.std.proofs.Common.{◌≡◌, ℕ, zero, suc, ◌+◌, ◌-◌, ◌*◌, ◌/◌, ◌%◌, ◌^◌, ◌<◌, ◌≤◌, Bool, true, false, cond, eqb, ltb, List, [], ◌∷◌, ◌++◌, length, get_or, take, drop, set, sym, refl, ap, ◌∙◌, ap₂, inl, inr, arith}
+use mathlib.Core.Path.{fun_ext}
+use Rattle.std.proofs.Math.Nat.{div-div-eq-div-mul}
+use Rattle.std.proofs.lemmas.Nat.{pow-add}
 use borrow.Rule.Slice.PartMut.{put_mid}
 use Rattle.std.proofs.lemmas.List.{length-take, length-drop, drop_all, drop-drop, take_all, take_at, drop_at, append-nil, flat_map_more, get_or-set_same, get_or-set_other}
 use Rattle.std.proofs.lemmas.Bool.{cases_lt, cases_eq, eq-eqb, ne_eqb, lt-ltb, le-ltb, cond-true, cond-false}
@@ -10,7 +13,7 @@ use Rattle.std.specs.List.{flat_map}
 use Rattle.std.proofs.lemmas.Slice.{take-put_mid}
 use Rattle.sets.specs.Sets.{has, count, rising, size}
 use Rattle.sets.specs.Words.{part, over, bytes_of}
-use Rattle.sets.proofs.SetLaws.{rising_none, rising-more, count-more, count-mono, has_above}
+use Rattle.sets.proofs.SetLaws.{count_none, rising_none, rising-more, count-more, count-mono, has_above}
 use Rattle.sets.proofs.WordLaws.{bytes-length}
 use Rattle.volume.specs.Working.{image_at, contents_in, share_of, stamped, written, replaced}
 
@@ -81,19 +84,52 @@ module _ (set' : ℕ) (images : ℕ → List ℕ) where
       go true = sym (flat_map_more (λ p. contents_in (images p)) [] (rising (has set') n) n)
       go false = ap (flat_map (λ p. contents_in (images p))) (append-nil (rising (has set') n)) ∙ sym (append-nil (gathered_to n))
 
+-- ---- the place of a page's contents
+
+has-from : (s p q : ℕ) → has (s / 2 ^ p) q ≡ has s (p + q)
+unfolding has
+has-from s p q = ap (λ x. eqb (x % 2) 1) (div-div-eq-div-mul s (2 ^ p) (2 ^ q) ∙ ap (λ d. s / d) (sym (pow-add 2 p q)))
+
+count-split : (f : ℕ → Bool) (a b : ℕ) → count f (a + b) ≡ count f a + count (λ i. f (a + i)) b
+count-split f a zero = let n = count_none (λ i. f (a + i)) in let z : a + 0 ≡ a = omega arith in ap (count f) z ∙ omega arith
+count-split f a (suc b) =
+    let one : a + suc b ≡ a + b + 1 = omega arith in
+    let more = count-more (λ i. f (a + i)) b in
+    let ih = count-split f a b in
+    let two : suc b ≡ b + 1 = omega arith in
+    ap (count f) one ∙ count-more f (a + b) ∙ (let e : count f (a + b) + cond (f (a + b)) 1 0 ≡ count f a + count (λ i. f (a + i)) (b + 1) = omega arith in e)
+    ∙ ap (λ n. count f a + count (λ i. f (a + i)) n) (sym two)
+
+count-nothing : (f : ℕ → Bool) (n : ℕ) → ((i : ℕ) → f i ≡ false) → count f n ≡ 0
+count-nothing f zero none = count_none f
+count-nothing f (suc n) none =
+    let two : suc n ≡ n + 1 = omega arith in
+    ap (count f) two ∙ count-more f n ∙ ap (λ b. count f n + cond b 1 0) (none n) ∙ (let ih = count-nothing f n none in omega arith)
+
+-- the pages of a set are those below page p and those from it on
+pub place-is : (s p : ℕ) → s < 2 ^ 64 → size s ≡ count (has s) p + size (s / 2 ^ p)
+place-is s p small =
+    let above = count-split (has s) 64 p in
+    let from = count-split (has s) p 64 in
+    let none = count-nothing (λ i. has s (64 + i)) p (λ i. has_above 64 s (64 + i) small (omega arith)) in
+    let turned : count (has s) (p + 64) ≡ count (has s) (64 + p) = ap (count (has s)) (let e : p + 64 ≡ 64 + p = omega arith in e) in
+    let same : count (λ i. has s (p + i)) 64 ≡ size (s / 2 ^ p) = ap (λ f. count f 64) (fun_ext (λ q. sym (has-from s p q))) in
+    omega arith
+
+-- how many pages a set has up to page p, that one included
+module _ (s p : ℕ) where
+  pub count-in : has s p ≡ true → count (has s) (p + 1) ≡ count (has s) p + 1
+  count-in e = count-more (has s) p ∙ ap (λ t. count (has s) p + cond t 1 0) e
+
+  pub count-out : has s p ≡ false → count (has s) (p + 1) ≡ count (has s) p
+  count-out e = count-more (has s) p ∙ ap (λ t. count (has s) p + cond t 1 0) e ∙ omega arith
+
 -- there is room for one page more of a set of at most k pages
 pub room-more : (set' n k : ℕ) → n < 64 → size set' ≤ k → has set' n ≡ true → 224 * count (has set') n + 224 ≤ 224 * k
 room-more set' n k l few e =
     let m = count-mono (has set') (n + 1) 64 (omega arith) in
     let s : count (has set') (n + 1) ≡ count (has set') n + 1 = count-more (has set') n ∙ ap (λ t. count (has set') n + cond t 1 0) e in
     omega arith
-
-pub room_within : (set' n k : ℕ) → n ≤ 64 → size set' ≤ k → 224 * count (has set') n ≤ 224 * k
-room_within set' n k l few = let m = count-mono (has set') n 64 l in omega arith
-
--- the place moves on by the page's contents
-pub place-more : (set' n : ℕ) → 224 * count (has set') n + 224 * cond (has set' n) 1 0 ≡ 224 * count (has set') (n + 1)
-place-more set' n = let s = count-more (has set') n in omega arith
 
 -- ---- new contents laid out page by page
 

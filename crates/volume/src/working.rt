@@ -1,12 +1,12 @@
 // The working pages, held by the volume itself.
 ghost use Rattle.std.specs.Prelude.{◌≡◌, ℕ, ◌+◌, ◌*◌, ◌<◌, ◌≤◌, Bool, not, ◌||◌, [], ◌++◌, length, take, replicate, if◌then◌else◌, true};
-ghost use Rattle.sets.specs.Sets.{has, size as size_of};
+ghost use Rattle.sets.specs.Sets.{has, count, size as size_of};
 ghost use Rattle.sets.specs.Words.{part};
 ghost use Rattle.redo.specs.Recovery.{every};
-ghost use Rattle.volume.specs.Working.{image_at, number_of, contents_in, gathered, stamped, written, replaced};
+ghost use Rattle.volume.specs.Working.{image_at, number_of, contents_in, gathered, share_of, stamped, written, replaced};
 
 use crate::pages::{CONTENTS, FOUR, IMAGE, IMAGES, WorkingPages};
-use sets::{Number, Page, contains};
+use sets::{Number, Page, contains, size};
 
 // The bytes of a page's number, in front of its contents.
 const NUMBER: usize = 4;
@@ -17,6 +17,14 @@ fn bytes_at<const N: usize>(bytes: &[u8], at: usize) -> &[u8; N]
     ensures { result.now ≡ part at N bytes.now }
 {
     bytes[at..].split_first_chunk().unwrap().0
+}
+
+// Where the contents of a page stand among those of a set's pages, one after another, rising: behind those of the pages below it.
+fn place(set: u64, page: Page) -> usize
+    ensures { result ≡ 224 * count (has set) page.number }
+{
+    let below = size(set) - size(set >> page.number);
+    CONTENTS * below as usize
 }
 
 impl WorkingPages {
@@ -82,19 +90,16 @@ impl WorkingPages {
 }
 
 impl WorkingPages {
-    // Copies the contents of one page to place `at`, if the page is in the set; answers the place behind them.
-    // Kept: the place is no index of a loop, it moves on past the pages of the set alone: their contents stand close together.
-    fn lift(&self, set: u64, page: Page, old: &mut [u8], at: usize) -> usize
-        requires room { has set page.number ≡ true → at + 224 ≤ length old.old }
-        requires within { at ≤ length old.old }
-        ensures next { result ≡ at + 224 * (if has set page.number then 1 else 0) }
-        ensures front { take result old.new ≡ take at old.old ++ (if has set page.number then contents_in (image_at self.now.images page.number) else []) }
+    // Copies the contents of a page to their place in a buffer, if the page is in the set.
+    fn lift(&self, set: u64, page: Page, old: &mut [u8])
+        requires { 224 * size_of set ≤ length old.old }
+        ensures { take (224 * count (has set) (page.number + 1)) old.new ≡ take (224 * count (has set) page.number) old.old ++ (if has set page.number then contents_in (image_at self.now.images page.number) else []) }
     {
         if !contains(set, page.number) {
-            return at;
+            return;
         }
+        let at = place(set, page);
         old[at..at + CONTENTS].copy_from_slice(self.contents(page));
-        at + CONTENTS
     }
 
     // Copies the contents of a set's pages, rising, to the front of a buffer for four pages; answers how many bytes they are.
@@ -103,11 +108,10 @@ impl WorkingPages {
         ensures used { result ≡ 224 * size_of set }
         ensures front { take result old.new ≡ gathered set (image_at self.now.images) }
     {
-        let mut at = 0;
         for number in 0..64u32 {
-            at = self.lift(set, Page { number }, old, at);
+            self.lift(set, Page { number }, old);
         }
-        at
+        CONTENTS * size(set) as usize
     }
 
     // The image of a page with another number and other contents.
@@ -128,19 +132,15 @@ impl WorkingPages {
         self.set_image(page, &image);
     }
 
-    // Gives one page its share of the new contents, if it is in the set; answers the place behind it.
-    // Kept: the place moves on past the pages of the set alone, as in `lift`.
-    fn lay(&mut self, set: u64, number: u32, new: &[u8], page: Page, at: usize) -> usize
-        requires room { has set page.number ≡ true → at + 224 ≤ length new.now }
-        requires within { at ≤ length new.now }
-        ensures next { result ≡ at + 224 * (if has set page.number then 1 else 0) }
-        ensures images { (q : ℕ) → image_at self.new.images q ≡ (if has set page.number then replaced page.number (stamped number (part at 224 new.now) (image_at self.old.images page.number)) (image_at self.old.images) q else image_at self.old.images q) }
+    // Gives one page its share of the new contents, if it is in the set.
+    fn lay(&mut self, set: u64, number: u32, new: &[u8], page: Page)
+        requires { 224 * size_of set ≤ length new.now }
+        ensures { (q : ℕ) → image_at self.new.images q ≡ (if has set page.number then replaced page.number (stamped number (share_of set new.now page.number) (image_at self.old.images page.number)) (image_at self.old.images) q else image_at self.old.images q) }
     {
         if !contains(set, page.number) {
-            return at;
+            return;
         }
-        self.stamp(page, number, bytes_at(new, at));
-        at + CONTENTS
+        self.stamp(page, number, bytes_at(new, place(set, page)));
     }
 
     // Gives the pages of a set a number and new contents, which stand one after another, rising.
@@ -148,9 +148,8 @@ impl WorkingPages {
         requires long { length new.now ≡ 224 * size_of set }
         ensures { (q : ℕ) → image_at self.new.images q ≡ written set number new.now (image_at self.old.images) q }
     {
-        let mut at = 0;
         for page in 0..64u32 {
-            at = self.lay(set, number, new, Page { number: page }, at);
+            self.lay(set, number, new, Page { number: page });
         }
     }
 }

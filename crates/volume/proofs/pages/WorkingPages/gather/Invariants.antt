@@ -6,6 +6,4 @@ use Rattle.volume.proofs.pages.WorkingPages.gather.Given as goal
 
 -- the contents of the pages so far stand in front
 abbrev pub invariant-loop-number : goal.invariant-loop-number
-invariant-loop-number l =
-    (l.at ≡ 224 * count (has l.set) l.number)
-    × (take l.at l.old ≡ gathered_to l.set (image_at l.self.images) l.number)
+invariant-loop-number l = take (224 * count (has l.set) l.number) l.old ≡ gathered_to l.set (image_at l.self.images) l.number
