@@ -1,4 +1,4 @@
-use Rattle.std.proofs.Common.{◌≡◌, ◌*◌, cond, [], ◌++◌, take, sym, ap, ◌∙◌, ap₂, arith}
+use Rattle.std.proofs.Common.{◌≡◌, ◌*◌, cond, [], ◌++◌, take, sym, ap, ◌∙◌, arith}
 use Rattle.sets.specs.Sets.{has, count}
 use Rattle.sets.proofs.SetLaws.{count_none}
 use Rattle.volume.specs.Working.{image_at, contents_in}
