@@ -3,7 +3,7 @@ use faults::Fault;
 use kinds::Kind;
 use lives::Refused;
 use media::Medium;
-use sets::contains;
+use sets::{Number, contains};
 use std::fmt::Display;
 use std::{fmt, io};
 use stores::PageStore;
@@ -64,7 +64,7 @@ pub fn page<K: Kind, L: Medium, S: PageStore>(
     if let Err(fault) = up.page(page, &mut image) {
         return println!(rt; "  page {page}: refused, {fault}");
     }
-    let number = sets::u32_at(&image, 0);
+    let number = u32::read_at(&image, 0);
     let byte = image[4];
     if image[4..228].iter().all(|b| *b == byte) {
         println!(rt; "  page {page}: number {number}, all bytes {byte}")

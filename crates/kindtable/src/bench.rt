@@ -56,7 +56,10 @@ impl Bench {
     pub fn run<K: Kind>(&mut self, rt: &HostRuntime, name: &str, body: &[u8]) -> io::Result<()> {
         let (reads, writes) = match K::scope(body) {
             Ok(sets) => sets,
-            Err(code) => return println!(rt; "{name}: no sets, code {code}"),
+            Err(refusal) => {
+                let code = refusal.code();
+                return println!(rt; "{name}: no sets, code {code}");
+            }
         };
         let old = self.gather(rt.alloc(), reads)?;
         let mut new = vec![in rt.alloc(); 0u8; CONTENTS * size(writes) as usize]?;
@@ -66,9 +69,10 @@ impl Bench {
                 let d = digest(&new);
                 println!(rt; "{name}: reads {reads:016x} writes {writes:016x} digest {d:08x}")
             }
-            Err(code) => println!(rt;
-                "{name}: reads {reads:016x} writes {writes:016x} code {code}"
-            ),
+            Err(refusal) => {
+                let code = refusal.code();
+                println!(rt; "{name}: reads {reads:016x} writes {writes:016x} code {code}")
+            }
         }
     }
 }
@@ -98,7 +102,8 @@ impl<'a> Misfit<'a> {
         let before = digest(&reply);
         match K::effect(body, &old, &mut reply) {
             Ok(()) => println!(rt; "{name}: accepted"),
-            Err(code) => {
+            Err(refusal) => {
+                let code = refusal.code();
                 let left = digest(&reply) == before;
                 println!(rt; "{name}: code {code}, buffer left {left}")
             }

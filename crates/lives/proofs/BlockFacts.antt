@@ -1,5 +1,6 @@
 -- What the header and a record that was run read as.
 use Rattle.std.proofs.Common.{◌≡◌, ℕ, ◌^◌, ◌<◌, ◌≤◌, Bool, true, false, cond, not, ◌&&◌, eqb, List, length, take, drop, replicate, Some, None, codes, Option, Result, sym, refl, ap, ◌∙◌, subst, arith}
+use Rattle.std.proofs.lemmas.Option.{cond_some}
 use Rattle.std.proofs.lemmas.List.{length-append, take_at, drop_at}
 use Rattle.std.proofs.lemmas.Bool.{and_parts, and_from, eqb-true, eq-eqb, ne_eqb, not_from_false, cond-true, cond-false}
 use Rattle.sets.specs.Words.{number, bytes_of, part}
@@ -43,19 +44,9 @@ header-reads t one small = cond-true (is_header_block (header_of t)) (Some (numb
         (and_from (not (eqb (number (part 4 4 (header_of t))) 0)) _ (not_from_false (eqb (number (part 4 4 (header_of t))) 0) (ne_eqb (number (part 4 4 (header_of t))) 0 (λ e. omega (arith, num))))
         (ap zeros (header-tail t) ∙ zeros-replicate 248)))
 
-some_same : (x y : Entry) → ◌≡◌ {A = Option Entry} (Some x) (Some y) → x ≡ y
-some_same x y h = cc
-
-none-some : (x : Entry) → ◌≡◌ {A = Option Entry} None (Some x) → ⊥
-none-some x h = let z : ◌≡◌ {A = ℕ} 0 1 = cc in omega arith
-
 -- a block that reads as something is a record, and says that
 reads-entry : (bs : List ℕ) (e : Entry) → record_in bs ≡ Some e → (length bs ≡ 256) × (entry_of bs ≡ e)
-reads-entry bs e h = go (is_record_block bs) refl
-  where
-    go : (b : Bool) → is_record_block bs ≡ b → (length bs ≡ 256) × (entry_of bs ≡ e)
-    go true is = (eqb-true (length bs) 256 (and_parts (eqb (length bs) 256) _ is).0, some_same (entry_of bs) e (sym (cond-true (is_record_block bs) (Some (entry_of bs)) None is) ∙ h))
-    go false is = absurd (none-some e (sym (cond-false (is_record_block bs) (Some (entry_of bs)) None is) ∙ h))
+reads-entry bs e h = let p = cond_some (is_record_block bs) (entry_of bs) e h in (eqb-true (length bs) 256 (and_parts (eqb (length bs) 256) _ p.0).0, p.1)
 
 -- the block of a record that was run
 pub record BlockOf (k : Meaning) (n : ℕ) (body : List ℕ) (bs : List ℕ) : Type 0 where

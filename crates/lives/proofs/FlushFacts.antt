@@ -1,5 +1,6 @@
 -- A flush: the book and the volume keep together, whether or not the install dies.
 use Rattle.std.proofs.Common.{◌≡◌, ℕ, zero, suc, ◌<◌, ◌≤◌, Bool, true, false, cond, not, ◌&&◌, eqb, ltb, leb, List, [], ◌∷◌, length, get_or, Some, None, filter, Option, sym, refl, ap, ◌∙◌, subst, inl, inr, arith, MatchOption, Err, Ok}
+use Rattle.std.proofs.lemmas.Option.{none-some}
 use mathlib.Core.Path.{fun_ext}
 use Rattle.std.specs.List.{ContainsAt as Has, AllByRecursion}
 use Rattle.std.proofs.lemmas.Bool.{both_ways, cases_lt, and_parts, and_from, or_cases, or_left, not-false, cond-true, cond-false, eqb-true, eqb-false, le-leb, ltb-true, ltb-false}
@@ -34,7 +35,7 @@ use Rattle.lives.specs.Books.{Book, next_of, next_logged, history_of}
 use Rattle.lives.specs.Lives.{ends_of}
 use Rattle.lives.specs.Lives.State.{up}
 use Rattle.lives.proofs.Keeping.{Keeps, Kept, Upheld, Booked}
-use Rattle.lives.proofs.FormatLaws.{none-some, well-halted, check-none}
+use Rattle.lives.proofs.FormatLaws.{well-halted, check-none}
 use Rattle.lives.proofs.StoreFacts.{install_live}
 use Rattle.lives.proofs.ListFacts.{waits-length}
 use Rattle.lives.proofs.RowFacts.{in_row_length, pictured-row, image-of_length, image-of_page}

@@ -1,5 +1,6 @@
 -- A force: the book and the volume keep together, whichever write dies.
 use Rattle.std.proofs.Common.{◌≡◌, ℕ, suc, ◌+◌, ◌-◌, ◌<◌, ◌≤◌, Bool, true, false, cond, eqb, List, [], ◌∷◌, length, get_or, set, Some, None, Option, sym, refl, ap, ◌∙◌, subst, inl, inr, arith, MatchOption, Err, Ok}
+use Rattle.std.proofs.lemmas.Option.{none-some, same_Some}
 use Rattle.std.proofs.lemmas.List.{length-set, get_or-set_same, get_or-set_other}
 use Rattle.std.proofs.lemmas.Bool.{both_ways, cases_eq, cases_lt, lt-leb, lt-ltb, eq-eqb, ne_eqb}
 use Rattle.sets.specs.Sets.{first as first_of}
@@ -23,7 +24,7 @@ use Rattle.lives.specs.Lives.{ends_of, answered, fate_in, fate_by}
 use Rattle.lives.specs.Lives.State.{up}
 use Rattle.lives.proofs.Keeping.{Keeps, Kept, Upheld, Booked, LogOf, Waits, block_for}
 use Rattle.lives.proofs.BlockFacts.{BlockOf, block-of}
-use Rattle.lives.proofs.FormatLaws.{none-some, well-halted}
+use Rattle.lives.proofs.FormatLaws.{well-halted}
 use Rattle.lives.proofs.ListFacts.{waits-length}
 
 -- ---- one record more in the log
@@ -80,12 +81,9 @@ write-dies f m m' b d r in' long live by = go (by.answer ∙ fault) (by.after �
     left : after_write f m b d ≡ fated f m b d
     left = rw (lt-ltb b (block_count m) in', eq-eqb (length d) 256 long, live) refl
 
-    some_same : (x y : Report) → ◌≡◌ {A = Option Report} (Some x) (Some y) → x ≡ y
-    some_same x y h = cc
-
     go : Some r ≡ check (dies_by f) (report (PowerLost b)) None → m' ≡ fated f m b d → (c : Bool) → dies_by f ≡ c
         → (dies_by f ≡ true) × (r ≡ report (PowerLost b)) × (m'.blocks ≡ cond (lands f) (set m.blocks b d) m.blocks)
-    go a e true ec = (ec, some_same r (report (PowerLost b)) (a ∙ ap (λ (c : Bool). check c (report (PowerLost b)) None) ec), ap (λ (x : Device). x.blocks) e)
+    go a e true ec = (ec, same_Some r (report (PowerLost b)) (a ∙ ap (λ (c : Bool). check c (report (PowerLost b)) None) ec), ap (λ (x : Device). x.blocks) e)
     go a e false ec = absurd (none-some r (sym (ap (λ (c : Bool). check c (report (PowerLost b)) None) ec) ∙ sym a))
 
 -- ---- the records that wait are written in order

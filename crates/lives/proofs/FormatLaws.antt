@@ -1,5 +1,6 @@
 -- An accepted format: the book is empty and nothing is installed.
 use Rattle.std.proofs.Common.{◌≡◌, ℕ, zero, suc, ◌+◌, ◌-◌, ◌*◌, ◌<◌, ◌≤◌, Bool, true, false, cond, not, eqb, ltb, leb, ◌⊎◌, List, [], ◌∷◌, ◌++◌, map, length, get_or, take, drop, set, replicate, Some, None, Option, sym, refl, ap, ◌∙◌, subst, inl, inr, arith, MatchOption, Err, Ok}
+use Rattle.std.proofs.lemmas.Option.{none-some}
 use Rattle.std.specs.List.{AllByRecursion}
 use Rattle.std.proofs.lemmas.List.{length-set, get_or-set_same, get_or-set_other, length-replicate, take-replicate, drop-replicate, replicate-append-replicate, map-append}
 use Rattle.std.proofs.ByRecursion.{All-append}
@@ -38,9 +39,6 @@ use Rattle.lives.proofs.BlockFacts.{header-length}
 -- a well volume is not halted
 pub well-halted : (f : Fault) → ◌≡◌ {A = Status} (Ok tt) (Err f) → ⊥
 well-halted f h = let z : ◌≡◌ {A = ℕ} 0 1 = cc in omega arith
-
-pub none-some : {A : Type 0} (x : A) → ◌≡◌ {A = Option A} None (Some x) → ⊥
-none-some x h = let z : ◌≡◌ {A = ℕ} 0 1 = cc in omega arith
 
 pub check-none : (bad : Bool) (r : Report) (rest : Option Report) → check bad r rest ≡ None → (bad ≡ false) × (rest ≡ None)
 check-none true r rest e = absurd (none-some r (sym e))

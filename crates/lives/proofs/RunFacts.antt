@@ -1,5 +1,6 @@
 -- A run: the book and the volume keep together.
 use Rattle.std.proofs.Common.{◌≡◌, ℕ, suc, ◌+◌, ◌-◌, ◌*◌, ◌^◌, ◌<◌, ◌≤◌, Bool, true, false, cond, ◌&&◌, eqb, ltb, leb, List, [], ◌∷◌, ◌++◌, length, get_or, take, drop, Some, None, Ok, Err, Option, Result, sym, refl, ap, ◌∙◌, subst, ap₂, inl, inr, arith}
+use Rattle.std.proofs.lemmas.Option.{none-some}
 use mathlib.Core.Path.{fun_ext}
 use Rattle.std.specs.List.{flat_map}
 use Rattle.std.proofs.lemmas.List.{length_push, length-append, length-take, length-drop, length-map, get_or_append_left, get_or_push, take_at, drop_at}
@@ -35,7 +36,7 @@ use Rattle.lives.specs.Lives.{ends_of, answered}
 use Rattle.lives.specs.Lives.State.{up}
 use Rattle.lives.proofs.Keeping.{Keeps, Kept, Upheld, Booked, Sound, Waits, entry_by, block_for}
 use Rattle.lives.proofs.AgreeLaws.{same_after, same-ran, same-installed, same_lists}
-use Rattle.lives.proofs.FormatLaws.{none-some, check-none}
+use Rattle.lives.proofs.FormatLaws.{check-none}
 use Rattle.lives.proofs.ListFacts.{waits-like, waits-push, count-from}
 
 -- ---- an image with a new number and new contents

@@ -4,10 +4,14 @@ use Rattle.faults.specs.declared.fault.Fault.{Fault}
 use Rattle.faults.specs.Faults.{Report, report}
 use Rattle.media.specs.declared.fate.Fate.{Fate}
 use Rattle.media.specs.Media.{Device}
+use Rattle.media.specs.declared.medium.Medium as Medium
 use Rattle.stores.specs.Stores.{Store}
+use Rattle.stores.specs.declared.store.PageStore as PageStore
 use Rattle.kinds.specs.Kinds.{Meaning}
 use Rattle.volume.specs.Volumes.{Ends}
 use Rattle.volume.specs.Formatting.{Formatted}
+use Rattle.volume.specs.declared.down.Down.{Down as DownVolume}
+use Rattle.volume.specs.declared.up.Up.{Up as UpVolume}
 use Rattle.volume.specs.Models.{up_model, down_model}
 use Rattle.lives.specs.declared.any_volume.AnyVolume.{AnyVolume}
 use Rattle.lives.specs.declared.any_volume.AnyVolume.TheVariants.{Down, Up}
@@ -27,6 +31,16 @@ module _ {K L S : Type 0} where
   abbrev pub state_of : (L → Device) → (S → Store) → (S → ℕ → List ℕ) → AnyVolume K L S → State
   state_of log store plan (Down d) = down (down_model log store plan d)
   state_of log store plan (Up u) = up (up_model log store plan u)
+
+  -- the same by what is told of the log's medium and of the store; and a volume known to be down or up
+  abbrev pub state_over : Medium.Ghosts L → PageStore.Ghosts S → AnyVolume K L S → State
+  state_over log store v = state_of log.model store.meaning store.plan v
+
+  abbrev pub down_state : Medium.Ghosts L → PageStore.Ghosts S → DownVolume K L S → State
+  down_state log store d = down (down_model log.model store.meaning store.plan d)
+
+  abbrev pub up_state : Medium.Ghosts L → PageStore.Ghosts S → UpVolume K L S → State
+  up_state log store u = up (up_model log.model store.meaning store.plan u)
 
 -- a down volume takes a mount alone, an up one all other calls
 abbrev pub up_takes : Call → Bool

@@ -1,13 +1,11 @@
 // One call of a volume, made and answered.
 ghost use Rattle.std.specs.Prelude.{◌≡◌, List};
 ghost use Rattle.media.specs.declared.fate.Fate.{Fate};
-ghost use Rattle.volume.specs.Models.{up_model, down_model};
 ghost use Rattle.lives.specs.Books.{Event};
 ghost use Rattle.lives.specs.Books.Event.{run, force, flush, trim, stop, mount};
 ghost use Rattle.lives.specs.Lives.{Steps};
-ghost use Rattle.lives.specs.Lives.State.{down, up};
 ghost use Rattle.lives.specs.Answers.{written_as};
-ghost use Rattle.lives.specs.Replays.{state_of, reported, Plays};
+ghost use Rattle.lives.specs.Replays.{state_over, down_state, up_state, reported, Plays};
 
 use crate::answer::{Answer, Refused};
 use crate::any_volume::AnyVolume;
@@ -30,13 +28,13 @@ fn run<K: Kind, L: Medium, S: PageStore>(
     volume: &mut Up<K, L, S>,
     body: &[u8],
 ) -> Result<u32, Fault>
-    ensures { Steps K.Kind.meaning (up (up_model L.Medium.model S.PageStore.meaning S.PageStore.plan volume.old)) (run body.now (reported result)) (up (up_model L.Medium.model S.PageStore.meaning S.PageStore.plan volume.new)) }
+    ensures { Steps K.Kind.meaning (up_state L.Medium S.PageStore volume.old) (run body.now (reported result)) (up_state L.Medium S.PageStore volume.new) }
 {
     volume.run(body)
 }
 
 fn force<K: Kind, L: Medium, S: PageStore>(volume: &mut Up<K, L, S>) -> Result<u32, Fault>
-    ensures { (fate : Fate) × Steps K.Kind.meaning (up (up_model L.Medium.model S.PageStore.meaning S.PageStore.plan volume.old)) (force (reported result) fate) (up (up_model L.Medium.model S.PageStore.meaning S.PageStore.plan volume.new)) }
+    ensures { (fate : Fate) × Steps K.Kind.meaning (up_state L.Medium S.PageStore volume.old) (force (reported result) fate) (up_state L.Medium S.PageStore volume.new) }
 {
     volume.force()
 }
@@ -45,13 +43,13 @@ fn flush<K: Kind, L: Medium, S: PageStore>(
     volume: &mut Up<K, L, S>,
     page: u32,
 ) -> Result<u32, Fault>
-    ensures { Steps K.Kind.meaning (up (up_model L.Medium.model S.PageStore.meaning S.PageStore.plan volume.old)) (flush page (reported result)) (up (up_model L.Medium.model S.PageStore.meaning S.PageStore.plan volume.new)) }
+    ensures { Steps K.Kind.meaning (up_state L.Medium S.PageStore volume.old) (flush page (reported result)) (up_state L.Medium S.PageStore volume.new) }
 {
     volume.flush(page)
 }
 
 fn trim<K: Kind, L: Medium, S: PageStore>(volume: &mut Up<K, L, S>) -> Result<u32, Fault>
-    ensures { Steps K.Kind.meaning (up (up_model L.Medium.model S.PageStore.meaning S.PageStore.plan volume.old)) (trim (reported result)) (up (up_model L.Medium.model S.PageStore.meaning S.PageStore.plan volume.new)) }
+    ensures { Steps K.Kind.meaning (up_state L.Medium S.PageStore volume.old) (trim (reported result)) (up_state L.Medium S.PageStore volume.new) }
 {
     volume.trim()
 }
@@ -60,7 +58,7 @@ fn trim<K: Kind, L: Medium, S: PageStore>(volume: &mut Up<K, L, S>) -> Result<u3
 fn mount<K: Kind, L: Medium, S: PageStore>(
     volume: Down<K, L, S>,
 ) -> (Up<K, L, S>, Result<u32, Fault>)
-    ensures { Steps K.Kind.meaning (down (down_model L.Medium.model S.PageStore.meaning S.PageStore.plan volume)) (mount (reported result.1)) (up (up_model L.Medium.model S.PageStore.meaning S.PageStore.plan result.0)) }
+    ensures { Steps K.Kind.meaning (down_state L.Medium S.PageStore volume) (mount (reported result.1)) (up_state L.Medium S.PageStore result.0) }
 {
     let (volume, redone) = volume.mount();
     match volume.fault() {
@@ -71,7 +69,7 @@ fn mount<K: Kind, L: Medium, S: PageStore>(
 
 // A stop, as a call of a life.
 fn stop<K: Kind, L: Medium, S: PageStore>(volume: Up<K, L, S>) -> (Down<K, L, S>, u64)
-    ensures { Steps K.Kind.meaning (up (up_model L.Medium.model S.PageStore.meaning S.PageStore.plan volume)) (stop result.1) (down (down_model L.Medium.model S.PageStore.meaning S.PageStore.plan result.0)) }
+    ensures { Steps K.Kind.meaning (up_state L.Medium S.PageStore volume) (stop result.1) (down_state L.Medium S.PageStore result.0) }
 {
     let (volume, dropped) = volume.stop();
     (volume, dropped as u64)
@@ -82,7 +80,7 @@ fn play_up<K: Kind, L: Medium, S: PageStore>(
     volume: Up<K, L, S>,
     call: Call,
 ) -> (AnyVolume<K, L, S>, Answer)
-    ensures { (new : List Event) × Plays K.Kind.meaning (up (up_model L.Medium.model S.PageStore.meaning S.PageStore.plan volume)) call.entry result.1 new (state_of L.Medium.model S.PageStore.meaning S.PageStore.plan result.0) }
+    ensures { (new : List Event) × Plays K.Kind.meaning (up_state L.Medium S.PageStore volume) call.entry result.1 new (state_over L.Medium S.PageStore result.0) }
 {
     let mut volume = volume;
     let answer = match call {
@@ -104,7 +102,7 @@ fn play_down<K: Kind, L: Medium, S: PageStore>(
     volume: Down<K, L, S>,
     call: Call,
 ) -> (AnyVolume<K, L, S>, Answer)
-    ensures { (new : List Event) × Plays K.Kind.meaning (down (down_model L.Medium.model S.PageStore.meaning S.PageStore.plan volume)) call.entry result.1 new (state_of L.Medium.model S.PageStore.meaning S.PageStore.plan result.0) }
+    ensures { (new : List Event) × Plays K.Kind.meaning (down_state L.Medium S.PageStore volume) call.entry result.1 new (state_over L.Medium S.PageStore result.0) }
 {
     match call {
         Call::Mount => {
@@ -120,7 +118,7 @@ pub fn play<K: Kind, L: Medium, S: PageStore>(
     volume: AnyVolume<K, L, S>,
     call: Call,
 ) -> (AnyVolume<K, L, S>, Answer)
-    ensures { (new : List Event) × Plays K.Kind.meaning (state_of L.Medium.model S.PageStore.meaning S.PageStore.plan volume) call.entry result.1 new (state_of L.Medium.model S.PageStore.meaning S.PageStore.plan result.0) }
+    ensures { (new : List Event) × Plays K.Kind.meaning (state_over L.Medium S.PageStore volume) call.entry result.1 new (state_over L.Medium S.PageStore result.0) }
 {
     match volume {
         AnyVolume::Down(volume) => play_down(volume, call),

@@ -1,7 +1,7 @@
 // A life of a volume, made call by call.
 ghost use Rattle.std.specs.Prelude.{◌≡◌, ◌<◌, min, List, length, take, drop, slice_index_or};
 ghost use Rattle.volume.specs.Models.{down_model};
-ghost use Rattle.lives.specs.Replays.{state_of, Replays, Replay};
+ghost use Rattle.lives.specs.Replays.{state_over, Replays, Replay};
 
 use crate::answer::Answer;
 use crate::any_volume::AnyVolume;
@@ -21,7 +21,7 @@ fn play_all<K: Kind, L: Medium, S: PageStore>(
 ) -> (AnyVolume<K, L, S>, usize)
     ensures count { result.1 ≡ min (length calls.now) (length answers.old) }
     ensures rest { drop result.1 answers.new ≡ drop result.1 answers.old }
-    ensures played { Replays K.Kind.meaning (state_of L.Medium.model S.PageStore.meaning S.PageStore.plan volume) (take result.1 calls.now) (take result.1 answers.new) (state_of L.Medium.model S.PageStore.meaning S.PageStore.plan result.0) }
+    ensures played { Replays K.Kind.meaning (state_over L.Medium S.PageStore volume) (take result.1 calls.now) (take result.1 answers.new) (state_over L.Medium S.PageStore result.0) }
 {
     let n = calls.len().min(answers.len());
     let mut volume = volume;
@@ -43,7 +43,7 @@ pub fn replay<K: Kind, L: Medium, S: PageStore>(
     calls: &[Call],
     answers: &mut [Answer],
 ) -> (AnyVolume<K, L, S>, Result<usize, Fault>)
-    ensures { Replay K.Kind.meaning first (down_model L.Medium.model S.PageStore.meaning S.PageStore.plan volume) calls.now answers.old result.1 answers.new (state_of L.Medium.model S.PageStore.meaning S.PageStore.plan result.0) }
+    ensures { Replay K.Kind.meaning first (down_model L.Medium.model S.PageStore.meaning S.PageStore.plan volume) calls.now answers.old result.1 answers.new (state_over L.Medium S.PageStore result.0) }
 {
     let mut volume = volume;
     match volume.format(first) {

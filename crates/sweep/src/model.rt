@@ -1,5 +1,5 @@
 // The pages as the operations make them, computed by hand: 64 numbers, and 64 contents of 224 bytes.
-use sets::u32_at;
+use sets::Number;
 
 const CONTENTS: usize = 224;
 
@@ -76,7 +76,7 @@ impl Model {
     // Whether an image has the page's number and contents.
     pub fn same(&self, page: u32, image: &[u8; 256]) -> bool {
         self.pages.get(page as usize).is_some_and(|page| {
-            page.number == u32_at(image, 0) && image[4..228] == page.contents[..]
+            page.number == u32::read_at(image, 0) && image[4..228] == page.contents[..]
         })
     }
 }
