@@ -12,7 +12,7 @@ use Rattle.volume.specs.Volumes.{Ends}
 use Rattle.volume.specs.Formatting.{Formatted}
 use Rattle.volume.specs.declared.down.Down.{Down as DownVolume}
 use Rattle.volume.specs.declared.up.Up.{Up as UpVolume}
-use Rattle.volume.specs.Models.{up_model, down_model}
+use Rattle.volume.specs.Models.{up_model, down_model, up_over, down_over}
 use Rattle.lives.specs.declared.any_volume.AnyVolume.{AnyVolume}
 use Rattle.lives.specs.declared.any_volume.AnyVolume.TheVariants.{Down, Up}
 use Rattle.lives.specs.declared.call.Call.{Call}
@@ -37,10 +37,10 @@ module _ {K L S : Type 0} where
   state_over log store v = state_of log.model store.meaning store.plan v
 
   abbrev pub down_state : Medium.Ghosts L → PageStore.Ghosts S → DownVolume K L S → State
-  down_state log store d = down (down_model log.model store.meaning store.plan d)
+  down_state log store d = down (down_over log store d)
 
   abbrev pub up_state : Medium.Ghosts L → PageStore.Ghosts S → UpVolume K L S → State
-  up_state log store u = up (up_model log.model store.meaning store.plan u)
+  up_state log store u = up (up_over log store u)
 
 -- a down volume takes a mount alone, an up one all other calls
 abbrev pub up_takes : Call → Bool

@@ -1,6 +1,6 @@
 // A life of a volume, made call by call.
 ghost use Rattle.std.specs.Prelude.{◌≡◌, ◌<◌, min, List, length, take, drop, slice_index_or};
-ghost use Rattle.volume.specs.Models.{down_model};
+ghost use Rattle.volume.specs.Models.{down_over};
 ghost use Rattle.lives.specs.Replays.{state_over, Replays, Replay};
 
 use crate::answer::Answer;
@@ -43,7 +43,7 @@ pub fn replay<K: Kind, L: Medium, S: PageStore>(
     calls: &[Call],
     answers: &mut [Answer],
 ) -> (AnyVolume<K, L, S>, Result<usize, Fault>)
-    ensures { Replay K.Kind.meaning first (down_model L.Medium.model S.PageStore.meaning S.PageStore.plan volume) calls.now answers.old result.1 answers.new (state_over L.Medium S.PageStore result.0) }
+    ensures { Replay K.Kind.meaning first (down_over L.Medium S.PageStore volume) calls.now answers.old result.1 answers.new (state_over L.Medium S.PageStore result.0) }
 {
     let mut volume = volume;
     match volume.format(first) {
