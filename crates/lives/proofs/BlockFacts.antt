@@ -1,8 +1,8 @@
 -- What the header and a record that was run read as.
-use Rattle.std.proofs.Common.{◌≡◌, ℕ, ◌^◌, ◌<◌, ◌≤◌, Bool, true, false, cond, not, ◌&&◌, eqb, List, length, take, drop, replicate, Some, None, codes, Option, Result, sym, refl, ap, ◌∙◌, subst, arith}
+use Rattle.std.proofs.Common.{◌≡◌, ℕ, ◌^◌, ◌<◌, ◌≤◌, true, cond, not, ◌&&◌, eqb, List, length, take, drop, replicate, Some, None, codes, Result, sym, refl, ap, ◌∙◌, subst, arith}
 use Rattle.std.proofs.lemmas.Option.{cond_some}
 use Rattle.std.proofs.lemmas.List.{length-append, take_at, drop_at}
-use Rattle.std.proofs.lemmas.Bool.{and_parts, and_from, eqb-true, eq-eqb, ne_eqb, not_from_false, cond-true, cond-false}
+use Rattle.std.proofs.lemmas.Bool.{and_parts, and_from, eqb-true, eq-eqb, ne_eqb, not_from_false, cond-true}
 use Rattle.sets.specs.Words.{number, bytes_of, part}
 use Rattle.sets.proofs.WordLaws.{bytes-length, number-bytes}
 use Rattle.faults.specs.declared.fault.Fault.TheVariants.{SetsDiffer}
