@@ -134,10 +134,16 @@ pub redone-numbered : (n : ℕ) (e : Entry) (x : Result (List ℕ) ℕ) (s : Red
 redone-numbered n e (Ok new) s = refl
 redone-numbered n e (Err c) s = refl
 
-pub uninstalled-numbered : (k : Meaning) (n : ℕ) (e : Entry) (s : Redone)
-    → redo_uninstalled k n (record { number = n; reads = e.reads; writes = e.writes; body = e.body }) s ≡ redo_uninstalled k n e s
-uninstalled-numbered k n e s =
-    ap (λ y. cond (is_missing e n s.images) y (Err (report (PartlyInstalled n)))) (redone-numbered n e (outcome k e.body e.reads s.images) s)
+-- one that is not installed: missing or neither
+module _ (k : Meaning) (n : ℕ) (e : Entry) (s : Redone) (out : is_installed e n s.images ≡ false) where
+  abbrev again : Result Redone Report
+  again = redone_by n e (outcome k e.body e.reads s.images) s
+
+  pub redone-missing : is_missing e n s.images ≡ true → again ≡ record_redone k n e s
+  redone-missing h = sym (cond-true (is_missing e n s.images) again (Err (report (PartlyInstalled n))) h) ∙ not-installed k n e s out
+
+  pub refused-neither : is_missing e n s.images ≡ false → Err (report (PartlyInstalled n)) ≡ record_redone k n e s
+  refused-neither h = sym (cond-false (is_missing e n s.images) again (Err (report (PartlyInstalled n))) h) ∙ not-installed k n e s out
 
 -- ---- all records
 

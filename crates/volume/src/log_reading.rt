@@ -59,12 +59,7 @@ impl<'a, L: Medium> LogReader<'a, L> {
         ensures { result ≡ end_of (L.Medium.model self.now.log.now) first 128 }
     {
         let full = first.saturating_add(128);
-        for n in first..full {
-            if !self.has_record(n) {
-                return n;
-            }
-        }
-        full
+        (first..full).find(|n| !self.has_record(*n)).unwrap_or(full)
     }
 
     // What is wrong with record n.

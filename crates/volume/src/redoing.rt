@@ -6,7 +6,7 @@ ghost use Rattle.tables.specs.DirtyOps.{dirty as dirty_of};
 ghost use Rattle.volume.specs.Working.{image_at};
 ghost use Rattle.volume.specs.LogReading.{record_fault};
 ghost use Rattle.volume.specs.Performing.{outcome};
-ghost use Rattle.volume.specs.Mounting.{is_installed as installed_in, is_missing as missing_in, records_fault, redone_by, redo_uninstalled, record_redone, records_redone};
+ghost use Rattle.volume.specs.Mounting.{is_installed as installed_in, is_missing as missing_in, records_fault, redone_by, record_redone, records_redone};
 ghost use Rattle.volume.specs.Recovering.{redone_in, comes_to};
 
 use crate::log_reader::LogReader;
@@ -51,17 +51,6 @@ impl Rebuilt {
         Ok(())
     }
 
-    // An operation that is not installed: redone if missing, and refused if not.
-    fn redo_uninstalled<K: Kind>(&mut self, operation: &Operation<K>) -> Result<(), Fault>
-        requires room { length (dirty_of self.old.dirty) < 128 }
-        ensures { comes_to result (redone_in self.new) ≡ redo_uninstalled K.Kind.meaning operation.now.record.number (view operation.now.record) (redone_in self.old) }
-    {
-        if !operation.is_missing(&self.pages) {
-            return Err(Fault::PartlyInstalled(operation.record.number));
-        }
-        self.redo_missing(operation)
-    }
-
     // Record n, without fault: left if installed, redone if missing, and refused if neither.
     fn redo_record<K: Kind>(&mut self, n: u32, block: &[u8]) -> Result<(), Fault>
         requires faultless { record_fault K.Kind.meaning n block.now ≡ None }
@@ -81,7 +70,10 @@ impl Rebuilt {
         if operation.is_installed(&self.pages) {
             return Ok(());
         }
-        self.redo_uninstalled(&operation)
+        if !operation.is_missing(&self.pages) {
+            return Err(Fault::PartlyInstalled(n));
+        }
+        self.redo_missing(&operation)
     }
 
     // The records of a log in order, up to the first that is refused; they are without fault, and none is redone yet.

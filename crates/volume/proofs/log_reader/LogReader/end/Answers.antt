@@ -1,26 +1,20 @@
-use Rattle.std.proofs.Common.{◌≡◌, ◌+◌, ◌-◌, sym, ◌∙◌, arith}
-use Rattle.volume.proofs.ReadingLaws.{end_here, end_on, end_full}
+use Rattle.std.proofs.Common.{◌≡◌, ℕ, ◌+◌, ◌-◌, Bool, not, unwrap_or, refl, ap, ◌∙◌, arith, rules, tests}
+use Rattle.std.specs.List.{find, range_with_len}
+use Rattle.std.proofs.lemmas.Iterator.{YieldsList-from_range}
+use Rattle.std.proofs.lemmas.Iterator.Search.{find_from_yields_List}
+use Rattle.volume.specs.LogReading.{bears, end_of}
+use Rattle.volume.proofs.ReadingLaws.{end_found, found-as}
 use Rattle.volume.proofs.log_reader.LogReader.end.Goals as goal
-
-pub loop-n-preserved : goal.loop-n-preserved
-loop-n-preserved g c =
-    let m = g.L.Medium.model c.args.self.now.log.now in
-    let f = c.args.first in
-    let n = c.loop-n.n in
-    sym (end_on m n (f + 128 - (n + 1)) (f + 128 - n) (omega (arith, c.saturating_add-full.ensures)) (λ e. omega (arith, c.saturating_add-full.ensures)) (sym c.if-not-has_record.ensures))
-    ∙ c.loop-n.invariant
-
-pub returns-then-not-has_record : goal.returns-then-not-has_record
-returns-then-not-has_record g c =
-    let m = g.L.Medium.model c.args.self.now.log.now in
-    let f = c.args.first in
-    let n = c.loop-n.n in
-    sym (end_here m n (f + 128 - (n + 1)) (f + 128 - n) (omega (arith, c.saturating_add-full.ensures)) (sym c.if-not-has_record.ensures))
-    ∙ c.loop-n.invariant
 
 pub returns : goal.returns
 returns g c =
     let m = g.L.Medium.model c.args.self.now.log.now in
-    let n = c.loop-n.n in
-    let same : c.saturating_add-full.result ≡ n = omega (arith, c.saturating_add-full.ensures, c.ranges.first.fits) in
-    same ∙ sym (end_full m n (c.args.first + 128 - n) (λ l. omega (arith, c.saturating_add-full.ensures)) (omega (arith, c.saturating_add-full.ensures))) ∙ c.loop-n.invariant
+    let f = c.args.first in
+    let full = c.saturating_add-full.result in
+    let test : ℕ → Bool = λ n. not (bears m n) in
+    let first = find_from_yields_List test _ _ c.find.result c.find.ensures.ran (YieldsList-from_range f full (full - f) refl refl) (λ x b q k. search (rules, tests)) in
+    let behind : full ≡ f + (full - f) = omega (arith, c.saturating_add-full.ensures, c.ranges.first.fits) in
+    let all : full - f + (128 - (full - f)) ≡ 128 = omega (arith, c.saturating_add-full.ensures) in
+    c.unwrap_or.ensures ∙ ap (λ o. unwrap_or o full) (found-as c.find.result ∙ first) ∙ ap (unwrap_or (find test (range_with_len f (full - f)))) behind
+    ∙ end_found m f (full - f) (128 - (full - f)) (λ l. omega (arith, c.saturating_add-full.ensures)) (omega (arith, c.saturating_add-full.ensures))
+    ∙ ap (end_of m f) all
