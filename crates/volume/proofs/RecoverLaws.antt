@@ -57,9 +57,6 @@ module _ (images : ℕ → List ℕ) where
   abbrev pub taken_to : ℕ → (ℕ → List ℕ) → ℕ → List ℕ
   taken_to k cur q = cond (ltb q k) (images q) (cur q)
 
-  pub taken_none : (cur : ℕ → List ℕ) (q : ℕ) → cur q ≡ taken_to 0 cur q
-  taken_none cur q = sym (cond-false (ltb q 0) (images q) (cur q) (le-ltb q 0 (omega arith)))
-
   pub taken_more : (k : ℕ) (cur next : ℕ → List ℕ) → ((q : ℕ) → cur q ≡ taken_to k cur q) → ((q : ℕ) → next q ≡ replaced k (images k) cur q)
       → (q : ℕ) → next q ≡ taken_to (k + 1) next q
   taken_more k cur next h e q = elim (cases_lt q (k + 1)) [
