@@ -1,5 +1,5 @@
 -- The memory medium: as many blocks of 256 bytes as fit into the host's bytes, and a fuse by which alone it dies.
-use Rattle.std.specs.Prelude.{◌≡◌, ℕ, zero, suc, ◌*◌, ◌/◌, List, [], ◌∷◌, length, take, drop}
+use Rattle.std.specs.Prelude.{◌≡◌, ℕ, zero, suc, ◌*◌, ◌/◌, List, [], ◌∷◌, length, take, drop, codes}
 use Rattle.media.specs.declared.memory.MemoryMedium.{MemoryMedium}
 use Rattle.media.specs.declared.fate.Fate.{Fate}
 use Rattle.media.specs.declared.fate.Fate.TheVariants.{Lives, DiesOld, DiesNew}
@@ -24,6 +24,11 @@ blocks_of bs = chunks (fitting bs) bs
 -- the bytes behind the last block
 abbrev pub behind : List ℕ → List ℕ
 behind bs = drop (256 * fitting bs) bs
+
+-- what is left, as text
+abbrev pub left_text : Left → List ℕ
+left_text Old = codes "old"
+left_text New = codes "new"
 
 -- what a write leaves in the block at which the fuse blows
 abbrev pub dying : Left → Fate

@@ -1,14 +1,26 @@
 // The fuse of a memory medium: after so many writes the next one dies.
-ghost use Rattle.std.specs.Prelude.{◌≡◌};
-ghost use Rattle.media.specs.Memory.{fate_of, burnt as burnt_by, renewed as renewed_by};
+ghost use Rattle.std.specs.Prelude.{◌≡◌, Some};
+ghost use Rattle.media.specs.Memory.{fate_of, burnt as burnt_by, renewed as renewed_by, left_text};
 
 use crate::fate::Fate;
+use std::fmt;
 
 // What the write at which the fuse blows leaves in its block.
 #[derive(Clone, Copy, PartialEq, Eq, Debug)]
 pub enum Left {
     Old,
     New,
+}
+
+impl fmt::Display for Left {
+    ghost output = { λ left. Some (left_text left) };
+
+    fn fmt<W: fmt::Write>(&self, f: &mut fmt::Formatter<W>) -> fmt::Result {
+        match self {
+            Left::Old => write!(f, "old"),
+            Left::New => write!(f, "new"),
+        }
+    }
 }
 
 #[derive(Clone, Copy, PartialEq, Eq, Debug)]

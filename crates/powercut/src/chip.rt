@@ -1,7 +1,7 @@
 // A memory chip with a store on a partition of it, and an install that is cut.
 use crate::survey::{Seen, survey};
-use media::{BLOCK, Left, Medium, MemoryMedium, Partition};
-use stores::{JournalStore, PageStore, ShadowStore};
+use media::{BLOCK, Left, MemoryMedium, Partition};
+use stores::{Journal, MediumStore, PageStore, Shadow, Way};
 
 // A chip of 130 blocks; the store stands on 129 of them, from block 1 on.
 const CHIP: usize = 33280;
@@ -11,31 +11,17 @@ const IMAGES: usize = 16384;
 // Pages 3, 40 and 63.
 const PAGES: u64 = 1 << 3 | 1 << 40 | 1 << 63;
 
-// A page store: its name, and an install on a medium of the version after `old`.
-pub trait Store {
+// A way of installing, by the name of its store.
+pub trait Named: Way {
     const NAME: &'static str;
-
-    fn attempt<M: Medium + Drop>(medium: M, old: u8) -> Option<Seen>;
 }
 
-pub struct Journal;
-
-impl Store for Journal {
+impl Named for Journal {
     const NAME: &'static str = "journal store";
-
-    fn attempt<M: Medium + Drop>(medium: M, old: u8) -> Option<Seen> {
-        install(&mut JournalStore::new(medium), old)
-    }
 }
 
-pub struct Shadow;
-
-impl Store for Shadow {
+impl Named for Shadow {
     const NAME: &'static str = "shadow store";
-
-    fn attempt<M: Medium + Drop>(medium: M, old: u8) -> Option<Seen> {
-        install(&mut ShadowStore::new(medium), old)
-    }
 }
 
 // The power fails after so many writes, and leaves the block of the next old or new.
@@ -82,25 +68,26 @@ fn medium<'a>(bytes: &'a mut [u8], fuse: Option<Cut>) -> Partition<MemoryMedium<
 }
 
 // Installs the version after `old`. Where the power fails: what the store shows once it is powered on again.
-fn install<S: PageStore>(store: &mut S, old: u8) -> Option<Seen> {
+fn install<W: Way>(bytes: &mut [u8], fuse: Option<Cut>, old: u8) -> Option<Seen> {
+    let mut store: MediumStore<_, W> = MediumStore::new(medium(bytes, fuse));
     let new = old.saturating_add(1);
     match store.install(PAGES, &images(new)) {
         Ok(()) => None,
-        Err(fault) => Some(survey(store, PAGES, fault.place(), old, new)),
+        Err(fault) => Some(survey(&mut store, PAGES, fault.place(), old, new)),
     }
 }
 
 // On a new chip: installs version 1; then version 2, cut as `earlier` says, if it does; then one version more, cut as `cut` says.
 // None where that fuse did not blow.
-pub fn cut_once<S: Store>(earlier: Option<Cut>, cut: Cut) -> Option<Seen> {
+pub fn cut_once<W: Way>(earlier: Option<Cut>, cut: Cut) -> Option<Seen> {
     let mut bytes = [0u8; CHIP];
-    let _ = S::attempt(medium(&mut bytes, None), 0);
+    let _ = install::<W>(&mut bytes, None, 0);
     let old = match earlier {
         None => 1,
         Some(_) => {
-            let _ = S::attempt(medium(&mut bytes, earlier), 1);
+            let _ = install::<W>(&mut bytes, earlier, 1);
             2
         }
     };
-    S::attempt(medium(&mut bytes, Some(cut)), old)
+    install::<W>(&mut bytes, Some(cut), old)
 }

@@ -5,35 +5,36 @@ mod chip;
 mod report;
 mod survey;
 
-use chip::{Cut, Journal, Shadow, Store};
+use chip::{Cut, Named};
 use media::Left;
 use std::io;
+use stores::{Journal, Shadow};
 
 // The writes of an install are counted by trying: a fuse that does not blow ends the round.
 const MOST_WRITES: u64 = 64;
 
 // Every cut of one install; the install before it may itself have been cut, as `earlier` says.
-fn round<S: Store>(rt: &HostRuntime, earlier: Option<Cut>) -> io::Result<()> {
+fn round<W: Named>(rt: &HostRuntime, earlier: Option<Cut>) -> io::Result<()> {
     let mut all = Vec::new(rt.alloc());
     for write in 0..MOST_WRITES {
         for left in [Left::Old, Left::New] {
             let cut = Cut { write, left };
-            let Some(seen) = chip::cut_once::<S>(earlier, cut) else {
-                return report::closing(rt, S::NAME, &all);
+            let Some(seen) = chip::cut_once::<W>(earlier, cut) else {
+                return report::closing(rt, W::NAME, &all);
             };
             report::line(rt, &cut, &seen)?;
             all.push(seen)?;
         }
     }
-    report::closing(rt, S::NAME, &all)
+    report::closing(rt, W::NAME, &all)
 }
 
 // Every cut of an install on a new store, under its name.
-fn headed_round<S: Store>(rt: &HostRuntime) -> io::Result<()> {
-    let store = S::NAME;
+fn headed_round<W: Named>(rt: &HostRuntime) -> io::Result<()> {
+    let store = W::NAME;
     println!(rt; "")?;
     println!(rt; "{store}")?;
-    round::<S>(rt, None)
+    round::<W>(rt, None)
 }
 
 fn main(rt: HostRuntime) -> io::Result<()> {

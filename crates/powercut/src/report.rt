@@ -1,17 +1,12 @@
 // The lines that are printed.
 use crate::chip::Cut;
 use crate::survey::{Outcome, Seen};
-use media::Left;
 use std::io;
 
 // A line for a cut.
 pub fn line(rt: &HostRuntime, cut: &Cut, seen: &Seen) -> io::Result<()> {
     let write = cut.write.saturating_add(1);
-    // Kept: Left is of media, so an impl of Display for it cannot stand here.
-    let left = match cut.left {
-        Left::Old => "old",
-        Left::New => "new",
-    };
+    let left = cut.left;
     let Seen { block, pages, .. } = seen;
     let others = if seen.others {
         "others untouched"

@@ -1,59 +1,27 @@
 // Two memory chips of 130 blocks with a volume on them: its log and its store stand on blocks 1 to 129.
 use crate::lives::{Course, live};
 use crate::plan::Plan;
-use media::{Left, Medium, MemoryMedium, Partition};
+use media::{Left, MemoryMedium, Partition};
 use std::alloc::{AllocError, Global};
 use std::fmt;
-use stores::{JournalStore, ShadowStore};
+use stores::{Journal, MediumStore, Shadow, Way};
 use volume::Down;
 
 const CHIP: usize = 33280;
 
 const BLOCKS: usize = 129;
 
-// A page store: its name, and a life of a volume on it; none where the power fails in the format.
-pub trait Store {
+// A way of installing, by the name of its store.
+pub trait Named: Way {
     const NAME: &'static str;
-
-    fn live<M: Medium + Drop>(
-        heap: Global,
-        log: M,
-        pages: M,
-        plan: &mut Plan,
-        left: Left,
-    ) -> Result<Option<Course>, AllocError>;
 }
 
-pub struct Journal;
-
-impl Store for Journal {
+impl Named for Journal {
     const NAME: &'static str = "journal store";
-
-    fn live<M: Medium + Drop>(
-        heap: Global,
-        log: M,
-        pages: M,
-        plan: &mut Plan,
-        left: Left,
-    ) -> Result<Option<Course>, AllocError> {
-        live(heap, Down::new(log, JournalStore::new(pages)), plan, left)
-    }
 }
 
-pub struct Shadow;
-
-impl Store for Shadow {
+impl Named for Shadow {
     const NAME: &'static str = "shadow store";
-
-    fn live<M: Medium + Drop>(
-        heap: Global,
-        log: M,
-        pages: M,
-        plan: &mut Plan,
-        left: Left,
-    ) -> Result<Option<Course>, AllocError> {
-        live(heap, Down::new(log, ShadowStore::new(pages)), plan, left)
-    }
 }
 
 #[derive(Clone, Copy, PartialEq, Eq)]
@@ -81,13 +49,8 @@ pub struct Cut {
 
 impl fmt::Display for Cut {
     fn fmt<W: fmt::Write>(&self, f: &mut fmt::Formatter<W>) -> fmt::Result {
-        let Cut { chip, .. } = self;
+        let Cut { chip, left, .. } = self;
         let write = self.write.saturating_add(1);
-        // Kept: Left is of media, so an impl of Display for it cannot stand here.
-        let left = match self.left {
-            Left::Old => "old",
-            Left::New => "new",
-        };
         write!(f, "{chip} chip cut at write {write}, left {left}")
     }
 }
@@ -102,7 +65,7 @@ fn part<'a>(bytes: &'a mut [u8], chip: Chip, cut: Option<Cut>) -> Partition<Memo
 }
 
 // A life on new chips; none where the power fails in the format.
-pub fn run<S: Store>(
+pub fn run<W: Way>(
     heap: Global,
     cut: Option<Cut>,
     plan: &mut Plan,
@@ -111,11 +74,7 @@ pub fn run<S: Store>(
     let mut pages = [0u8; CHIP];
     let log = part(&mut log, Chip::Log, cut);
     let pages = part(&mut pages, Chip::Pages, cut);
-    S::live(
-        heap,
-        log,
-        pages,
-        plan,
-        cut.map_or(Left::Old, |cut| cut.left),
-    )
+    let store: MediumStore<_, W> = MediumStore::new(pages);
+    let left = cut.map_or(Left::Old, |cut| cut.left);
+    live(heap, Down::new(log, store), plan, left)
 }

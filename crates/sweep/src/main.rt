@@ -11,12 +11,13 @@ mod report;
 mod script;
 mod tally;
 
-use chips::{Chip, Cut, Journal, Shadow, Store};
+use chips::{Chip, Cut, Named};
 use lives::Course;
 use media::Left;
 use plan::Plan;
 use std::alloc::AllocError;
 use std::{fmt, io};
+use stores::{Journal, Shadow, Way};
 use tally::{Seen, Tally, recovered};
 
 // The orders of flushes: enough for every order of the groups that may go on each day.
@@ -41,12 +42,12 @@ impl<'a> Sweep<'a> {
     }
 
     // How many writes the format makes on a chip: so many can pass before one dies outside it.
-    fn format_writes<S: Store>(&self, chip: Chip) -> Result<u64, AllocError> {
+    fn format_writes<W: Way>(&self, chip: Chip) -> Result<u64, AllocError> {
         for write in 0..MOST_WRITES {
             let left = Left::Old;
             let mut plan = Plan::new(self.rt.alloc(), 0);
             let cut = Cut { chip, write, left };
-            if chips::run::<S>(self.rt.alloc(), Some(cut), &mut plan)?.is_some() {
+            if chips::run::<W>(self.rt.alloc(), Some(cut), &mut plan)?.is_some() {
                 return Ok(write);
             }
         }
@@ -68,8 +69,8 @@ impl<'a> Sweep<'a> {
     }
 
     // One cut; says whether the write was still of the life.
-    fn one_cut<S: Store>(&mut self, cut: Cut, plan: &mut Plan) -> io::Result<bool> {
-        let Some(course) = chips::run::<S>(self.rt.alloc(), Some(cut), plan)? else {
+    fn one_cut<W: Way>(&mut self, cut: Cut, plan: &mut Plan) -> io::Result<bool> {
+        let Some(course) = chips::run::<W>(self.rt.alloc(), Some(cut), plan)? else {
             self.blame(Some(cut), &"the format died")?;
             return Ok(true);
         };
@@ -88,10 +89,10 @@ impl<'a> Sweep<'a> {
     }
 
     // Every write of a chip from a write on, left old and left new.
-    fn chip_cuts<S: Store>(&mut self, chip: Chip, start: u64, plan: &mut Plan) -> io::Result<()> {
+    fn chip_cuts<W: Way>(&mut self, chip: Chip, start: u64, plan: &mut Plan) -> io::Result<()> {
         for write in start..start.saturating_add(MOST_WRITES) {
             for left in [Left::Old, Left::New] {
-                if !self.one_cut::<S>(Cut { chip, write, left }, plan)? {
+                if !self.one_cut::<W>(Cut { chip, write, left }, plan)? {
                     return Ok(());
                 }
             }
@@ -100,27 +101,27 @@ impl<'a> Sweep<'a> {
     }
 
     // The life without a cut, which makes the choices of an order; then every cut of it.
-    fn one_order<S: Store>(&mut self, log: u64, pages: u64, order: usize) -> io::Result<()> {
+    fn one_order<W: Way>(&mut self, log: u64, pages: u64, order: usize) -> io::Result<()> {
         let mut plan = Plan::new(self.rt.alloc(), order);
-        let Some(course) = chips::run::<S>(self.rt.alloc(), None, &mut plan)? else {
+        let Some(course) = chips::run::<W>(self.rt.alloc(), None, &mut plan)? else {
             return self.blame(None, &"the format was refused");
         };
         self.judge(None, &course)?;
         report::order(self.rt, &plan)?;
-        self.chip_cuts::<S>(Chip::Log, log, &mut plan)?;
-        self.chip_cuts::<S>(Chip::Pages, pages, &mut plan)
+        self.chip_cuts::<W>(Chip::Log, log, &mut plan)?;
+        self.chip_cuts::<W>(Chip::Pages, pages, &mut plan)
     }
 
     // All orders.
-    fn all_orders<S: Store>(&mut self) -> io::Result<()> {
-        let (rt, store) = (self.rt, S::NAME);
-        let log = self.format_writes::<S>(Chip::Log)?;
-        let pages = self.format_writes::<S>(Chip::Pages)?;
+    fn all_orders<W: Named>(&mut self) -> io::Result<()> {
+        let (rt, store) = (self.rt, W::NAME);
+        let log = self.format_writes::<W>(Chip::Log)?;
+        let pages = self.format_writes::<W>(Chip::Pages)?;
         println!(rt;
             "{store}, behind the format's {log} writes of the log and {pages} of the store"
         )?;
         for order in 0..ORDERS {
-            self.one_order::<S>(log, pages, order)?;
+            self.one_order::<W>(log, pages, order)?;
         }
         report::table(rt, &self.tally)?;
         println!(rt; "")
