@@ -15,7 +15,7 @@ use faults::Fault;
 pub struct MemoryMedium<'a> {
     bytes: &'a mut [u8],
     fuse: Fuse,
-    // Kept: a flag beside the fuse: a dead medium takes a new fuse and stays dead.
+    // Kept: a flag beside the fuse, and neither tells the other: a dead medium takes a new fuse and stays dead.
     live: bool,
 }
 
@@ -30,13 +30,11 @@ fn store_block(bytes: &mut [u8], block: usize, new: &[u8; BLOCK])
 }
 
 // The bytes of block `block`.
-fn load_block(bytes: &[u8], block: usize) -> &[u8]
+fn load_block(bytes: &[u8], block: usize) -> &[u8; BLOCK]
     requires fits { block < fitting bytes.now }
-    ensures block { result.now ≡ slice_index_or (blocks_of bytes.now) block [] }
-    ensures whole { length result.now ≡ 256 }
+    ensures { result.now ≡ slice_index_or (blocks_of bytes.now) block [] }
 {
-    let at = block * BLOCK;
-    &bytes[at..at + BLOCK]
+    bytes[block * BLOCK..].split_first_chunk().unwrap().0
 }
 
 impl<'a> MemoryMedium<'a> {

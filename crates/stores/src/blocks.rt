@@ -122,7 +122,8 @@ pub(crate) fn write_images<M: Medium>(
 }
 
 // Copies the staged image of one page home, if the page is in the mark.
-// Kept: a closure that gives the image, for this and `put_image`, needs a clause on what it gives after each of the writes before.
+// Kept: this and `put_image` differ in the image alone, and so do their loops; a closure that gives the image would need a clause on what
+// it gives after each of the writes before, and be no plainer.
 fn bring_home<M: Medium>(medium: &mut M, mark: u64, page: Page) -> Result<(), Fault>
     requires there { 129 ≤ block_count (M.Medium.model medium.old) }
     ensures ran { Ran (M.Medium.model medium.old) (of_page 0 mark (λ p. image_of (block_at (M.Medium.model medium.old) (slot every_page p))) page.number) (refusal result) (M.Medium.model medium.new) }
