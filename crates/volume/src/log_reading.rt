@@ -23,9 +23,7 @@ pub(crate) fn record_place(number: u32) -> usize
 fn check_record<K: Kind>(n: u32, block: &[u8]) -> Result<(), Fault>
     ensures { refusal result ≡ record_fault K.Kind.meaning n block.now }
 {
-    let Some(record) = Record::parse(block) else {
-        return Err(Fault::BadRecord(n, 0));
-    };
+    let record = Record::parse(block).ok_or(Fault::BadRecord(n, 0))?;
     let operation = Operation::<K>::of(n, record.body).map_err(|refusal| Fault::BadRecord(
         n,
         refusal.code(),

@@ -8,6 +8,7 @@ ghost use Rattle.volume.specs.Models.{up_over};
 ghost use Rattle.volume.specs.Volumes.{page_fault, filled_with, group_fault, Told};
 
 use crate::down::Down;
+use crate::pages::IMAGE;
 use crate::up::Up;
 use faults::Fault;
 use kinds::Kind;
@@ -23,10 +24,9 @@ impl<K: Kind, L: Medium, S: PageStore> Up<K, L, S> {
     {
         self.status?;
         let page = Page::new(page).ok_or(Fault::NoSuchPage(page))?;
-        if buffer.len() != 256 {
-            return Err(Fault::WrongLength(buffer.len()));
-        }
-        buffer.copy_from_slice(self.pages.image(page));
+        let length = buffer.len();
+        let image: &mut [u8; IMAGE] = buffer.as_mut_array().ok_or(Fault::WrongLength(length))?;
+        *image = *self.pages.image(page);
         Ok(())
     }
 

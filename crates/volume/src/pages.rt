@@ -1,14 +1,13 @@
 // The working pages' bytes.
 ghost use Rattle.std.specs.Prelude.{◌≡◌, length};
 
+use kinds::CONTENTS;
+
 // The bytes of an image.
 pub(crate) const IMAGE: usize = 256;
 
 // The bytes of 64 images.
 pub(crate) const IMAGES: usize = 64 * IMAGE;
-
-// The bytes of a page's contents.
-pub(crate) const CONTENTS: usize = 224;
 
 // The bytes of the contents of four pages.
 pub(crate) const FOUR: usize = 4 * CONTENTS;

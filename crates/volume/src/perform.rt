@@ -9,9 +9,9 @@ ghost use Rattle.volume.specs.Working.{image_at};
 ghost use Rattle.volume.specs.Performing.{outcome, performed};
 
 use crate::operation::Operation;
-use crate::pages::{CONTENTS, FOUR, WorkingPages};
+use crate::pages::{FOUR, WorkingPages};
 use graph::Op;
-use kinds::{Kind, Refusal};
+use kinds::{CONTENTS, Kind, Refusal};
 use logblocks::Record;
 use sets::size;
 use std::marker::PhantomData;

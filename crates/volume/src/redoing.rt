@@ -57,9 +57,7 @@ impl Rebuilt {
         requires room { length (dirty_of self.old.dirty) < 128 }
         ensures { comes_to result (redone_in self.new) ≡ record_redone K.Kind.meaning n (entry_of block.now) (redone_in self.old) }
     {
-        let Some(logged) = Record::parse(block) else {
-            return Err(Fault::BadRecord(n, 0));
-        };
+        let logged = Record::parse(block).ok_or(Fault::BadRecord(n, 0))?;
         let operation = Operation::<K> {
             record: Record {
                 number: n,

@@ -5,7 +5,8 @@ ghost use Rattle.sets.specs.Words.{part};
 ghost use Rattle.redo.specs.Recovery.{every};
 ghost use Rattle.volume.specs.Working.{image_at, number_of, contents_in, gathered, share_of, stamped, written, replaced};
 
-use crate::pages::{CONTENTS, FOUR, IMAGE, IMAGES, WorkingPages};
+use crate::pages::{FOUR, IMAGE, IMAGES, WorkingPages};
+use kinds::CONTENTS;
 use sets::{Number, Page, contains, size};
 
 // The bytes of a page's number, in front of its contents.
@@ -38,9 +39,8 @@ impl WorkingPages {
     }
 
     // All images.
-    pub(crate) fn all(&self) -> &[u8]
-        ensures bytes { result.now ≡ self.now.images }
-        ensures len { length result.now ≡ 16384 }
+    pub(crate) fn all(&self) -> &[u8; IMAGES]
+        ensures { result.now ≡ self.now.images }
     {
         &self.images
     }

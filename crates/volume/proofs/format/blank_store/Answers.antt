@@ -7,4 +7,4 @@ use Rattle.volume.proofs.format.blank_store.Goals as goal
 pub returns : goal.returns
 returns g c =
     subst (λ x. Installed (g.S.PageStore.meaning c.args.store.now) (g.S.PageStore.plan c.args.store.now all_pages) all_pages x (refusal c.install.result) (g.S.PageStore.meaning c.install.new.self))
-    (c.all.ensures.bytes ∙ c.blank-blank.ensures) c.install.ensures.installed
+    (c.all.ensures ∙ c.blank-blank.ensures) c.install.ensures.installed

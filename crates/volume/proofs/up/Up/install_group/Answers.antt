@@ -12,7 +12,7 @@ returns-in_err-settle g c =
     let v = up_over {K = g.row.K.Denot} g.L.Medium g.S.PageStore c.args.self.now in
     let v₁ = up_over {K = g.row.K.Denot} g.L.Medium g.S.PageStore c.settle.new.self in
     let s = c.install-outcome.new.self in
-    let row = row_back c.args.self.now.pages.images (ap length (sym c.all.ensures.bytes) ∙ c.all.ensures.len) ∙ sym c.all.ensures.bytes in
+    let row = row_back c.args.self.now.pages.images c.args.self.now.pages.sized ∙ sym c.all.ensures in
     let p = err_from_is_err_and c.from_residual.result c.from_residual.ensures.1 in
     rw (p.1, p.2)
     (group-refused v v₁ (refusal c.install-outcome.result) c.args.group c.all.result.now (g.S.PageStore.meaning s) (g.S.PageStore.plan s) row c.install-outcome.ensures.installed c.in_err-settle.ensures.after
@@ -23,6 +23,6 @@ returns g c =
     let v = up_over {K = g.row.K.Denot} g.L.Medium g.S.PageStore c.args.self.now in
     let v₁ = up_over {K = g.row.K.Denot} g.L.Medium g.S.PageStore c.settle.new.self in
     let s = c.install-outcome.new.self in
-    let row = row_back c.args.self.now.pages.images (ap length (sym c.all.ensures.bytes) ∙ c.all.ensures.len) ∙ sym c.all.ensures.bytes in
+    let row = row_back c.args.self.now.pages.images c.args.self.now.pages.sized ∙ sym c.all.ensures in
     group-passed v v₁ (refusal c.install-outcome.result) c.args.group c.all.result.now (g.S.PageStore.meaning s) (g.S.PageStore.plan s) row c.install-outcome.ensures.installed c.in_ok-settle.ensures.after
     (dirty c.remove.new.self) (ap refusal c.in_ok-settle.ensures.answer) c.remove.ensures
