@@ -54,13 +54,21 @@ impl<'a, L: Medium> LogReader<'a, L> {
         Ok(LogReader { log })
     }
 
+    // The bytes of one of the log's blocks.
+    pub(crate) fn read(&self, block: usize) -> [u8; BLOCK]
+        requires { block < 129 }
+        ensures { result ≡ block_at (L.Medium.model self.now.log.now) block }
+    {
+        let mut bytes = [0u8; BLOCK];
+        let _ = self.log.read(block, &mut bytes);
+        bytes
+    }
+
     // The log's first number, if block 0 is a header.
     pub(crate) fn first_number(&self) -> Option<u32>
         ensures { result ≡ header_in (block_at (L.Medium.model self.now.log.now) 0) }
     {
-        let mut block = [0u8; BLOCK];
-        let _ = self.log.read(0, &mut block);
-        read_header(&block)
+        read_header(&self.read(0))
     }
 }
 

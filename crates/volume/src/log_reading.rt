@@ -40,9 +40,7 @@ impl<'a, L: Medium> LogReader<'a, L> {
     pub(crate) fn block(&self, n: u32) -> [u8; BLOCK]
         ensures { result ≡ record_block (L.Medium.model self.now.log.now) n }
     {
-        let mut block = [0u8; BLOCK];
-        let _ = self.log.read(record_place(n), &mut block);
-        block
+        self.read(record_place(n))
     }
 
     // Whether the log has record n.
