@@ -1,3 +1,4 @@
 pub mod FrontLaws
 pub mod MapLaws
 pub mod SortedLaws
+pub mod UnfitLaws

@@ -1,6 +1,7 @@
 use Rattle.std.proofs.Common.{length, sym, ap, ◌∙◌}
 use Rattle.kinds.specs.Actions.{sets}
 use Rattle.kinds.specs.Kinds.{answer, filled}
+use Rattle.kinds.specs.Refusals.{named}
 use Rattle.kinds.specs.Views.{view, viewed}
 use Rattle.kinds.specs.ActionLaws.{page-reply_none, page-reply_short, page-reply_done, parse-good, action-ready}
 use Rattle.kinds.proofs.RefusalLaws.{refused, malformed, misfit, fit, fit-lengths}
@@ -45,4 +46,4 @@ returns c =
     let n = length c.args.new.now in
     let some = ap viewed (sym c.in_ok-op.ensures.ok_part) ∙ c.parse.ensures in
     let r = page-reply_done c.args.body.now old n a some (fit (length old) n _ (sets a) c.sets.ensures c.in_ok-sized.ensures) in
-    record { answer = ap answer (sym r); buffer = c.write.ensures ∙ ap (λ x. filled x c.args.new.now) (sym r) }
+    record { answer = ap (λ x. named (answer x)) (sym r); buffer = c.write.ensures ∙ ap (λ x. filled x c.args.new.now) (sym r) }

@@ -1,9 +1,11 @@
 use Rattle.std.proofs.Common.{◌≡◌, length, sym, ap, ◌∙◌}
 use Rattle.kinds.specs.Kinds.{answer, filled, reply}
 use Rattle.kinds.proofs.RefusalLaws.{handed_on, refused, malformed, misfit, fit, fit-lengths}
+use Rattle.kinds.specs.Refusals.{named}
 use Rattle.tree.specs.Steps.{sets, change, tree_meaning}
 use Rattle.tree.specs.StepLaws.{parse-good, step-ready}
 use Rattle.tree.specs.TreeLaws.{tree-reply_none, tree-reply_short, tree-reply_done}
+use Rattle.tree.proofs.UnfitLaws.{unfit_named}
 use Rattle.tree.proofs.kind.TreeKindKind.effect.Goals as goal
 
 pub returns-in_err-step : goal.returns-in_err-step
@@ -39,7 +41,7 @@ returns-in_err-take g c =
     let some = sym c.in_ok-step.ensures.ok_part ∙ c.parse.ensures in
     let r : change g.O.KeyOrder.ordering s old ≡ reply (tree_meaning g.O.KeyOrder.ordering) c.args.body.now old n = sym (tree-reply_done g.O.KeyOrder.ordering c.args.body.now old n s some (fit (length old) n _ (sets s) c.sets.ensures c.in_ok-sized.ensures)) in
     record {
-      answer = handed_on _ _ c.from_residual-in_err-take.ensures.1 ∙ c.in_err-take.ensures.answer ∙ ap answer r;
+      answer = handed_on _ _ c.from_residual-in_err-take.ensures.1 ∙ unfit_named _ _ c.in_err-take.ensures.answer ∙ ap (λ x. named (answer x)) r;
       buffer = c.in_err-take.ensures.buffer ∙ ap (λ x. filled x c.args.new.now) r;
     }
 
@@ -50,4 +52,4 @@ returns g c =
     let n = length c.args.new.now in
     let some = sym c.in_ok-step.ensures.ok_part ∙ c.parse.ensures in
     let r : change g.O.KeyOrder.ordering s old ≡ reply (tree_meaning g.O.KeyOrder.ordering) c.args.body.now old n = sym (tree-reply_done g.O.KeyOrder.ordering c.args.body.now old n s some (fit (length old) n _ (sets s) c.sets.ensures c.in_ok-sized.ensures)) in
-    record { answer = c.in_ok-take.ensures.answer ∙ ap answer r; buffer = c.in_ok-take.ensures.buffer ∙ ap (λ x. filled x c.args.new.now) r }
+    record { answer = ap named (c.in_ok-take.ensures.answer ∙ ap answer r); buffer = c.in_ok-take.ensures.buffer ∙ ap (λ x. filled x c.args.new.now) r }
