@@ -19,7 +19,7 @@ pub(crate) struct Entry {
 pub fn byte(c: &[u8], at: usize) -> u8
     ensures { result ≡ slice_index c.now at }
 {
-    if at < c.len() { c[at] } else { 0 }
+    c.get(at).copied().unwrap_or(0)
 }
 
 // How many entries there are.
@@ -85,8 +85,9 @@ impl Iterator for Entries<'_> {
 pub fn search(c: &[u8], key: u32) -> Option<u32>
     ensures { result ≡ find key (entries c.now) }
 {
-    let entry = Entries::of(c).find(|entry| entry.key == key)?;
-    Some(entry.value)
+    Entries::of(c)
+        .find(|entry| entry.key == key)
+        .map(|entry| entry.value)
 }
 
 // Whether a key is absent among the entries of a page.

@@ -12,10 +12,5 @@ pub returns : goal.returns
 returns c =
     let es = entries c.args.c.now in
     let f : option_map pair c.find.result ≡ find_first (λ e. eqb e.0 c.args.key) es = find_from_yields_List (λ e. eqb e.0 c.args.key) c.find.new.self _ c.find.result c.find.ensures.ran (YieldsList-from_first pair left es c.of.ensures) (λ x b q t. search (rules, tests)) in
-    ap (λ r. option_map (λ e. e.1) (option_map pair r)) (sym c.in_ok-entry.was) ∙ ap (option_map (λ e. e.1)) f ∙ sym (find_is c.args.key es)
-
-pub returns-in_err-entry : goal.returns-in_err-entry
-returns-in_err-entry c =
-    let es = entries c.args.c.now in
-    let f : option_map pair c.find.result ≡ find_first (λ e. eqb e.0 c.args.key) es = find_from_yields_List (λ e. eqb e.0 c.args.key) c.find.new.self _ c.find.result c.find.ensures.ran (YieldsList-from_first pair left es c.of.ensures) (λ x b q t. search (rules, tests)) in
-    c.from_residual.ensures ∙ ap (λ r. option_map (λ e. e.1) (option_map pair r)) (sym c.in_err-entry.was) ∙ ap (option_map (λ e. e.1)) f ∙ sym (find_is c.args.key es)
+    let m : c.map.result ≡ option_map (λ e. e.1) (option_map pair c.find.result) = search (rules, tests) in
+    m ∙ ap (option_map (λ e. e.1)) f ∙ sym (find_is c.args.key es)
