@@ -1,5 +1,6 @@
 use Rattle.std.proofs.Common.{length, ap, ◌∙◌, arith}
-use Rattle.kinds.specs.Refusals.{code_of}
+use Rattle.kinds.specs.Refusals.{code_of, coded}
+use Rattle.kinds.proofs.RefusalLaws.{coded_named}
 use Rattle.kinds.specs.Kinds.{answer, filled}
 use Rattle.volume.specs.Working.{image_at}
 use Rattle.volume.specs.Performing.{outcome}
@@ -13,7 +14,7 @@ returns g c =
     let images = image_at c.args.pages.now.images in
     let is = reply-gathered k g.met.K.Kind.lawful c.args.self.now.record.body.now c.args.self.now.record.reads c.args.self.now.record.writes c.args.self.now.scoped images c.gather-used.result c.gather-used.new.old (length c.args.new.now)
     c.gather-used.ensures.used (omega arith) c.gather-used.ensures.front c.requires in
-    let a = c.in_ok-effect.ensures.answer ∙ ap answer is in
+    let a = ap coded c.in_ok-effect.ensures.answer ∙ coded_named _ ∙ ap answer is in
     record {
       answer = a;
       images = done_ok (outcome k c.args.self.now.record.body.now c.args.self.now.record.reads images) c.effect.new.new c.args.new.now c.args.self.now.record.writes c.args.self.now.record.number images
@@ -26,7 +27,7 @@ returns-in_err-effect g c =
     let images = image_at c.args.pages.now.images in
     let is = reply-gathered k g.met.K.Kind.lawful c.args.self.now.record.body.now c.args.self.now.record.reads c.args.self.now.record.writes c.args.self.now.scoped images c.gather-used.result c.gather-used.new.old (length c.args.new.now)
     c.gather-used.ensures.used (omega arith) c.gather-used.ensures.front c.requires in
-    let a = c.in_err-effect.ensures.answer ∙ ap answer is in
+    let a = ap coded c.in_err-effect.ensures.answer ∙ coded_named _ ∙ ap answer is in
     let p = err_from_is_err_and c.from_residual.result c.from_residual.ensures.1 in
     rw (p.1, p.2)
     (record { answer = a; images = done-err (outcome k c.args.self.now.record.body.now c.args.self.now.record.reads images) (code_of c.in_err-effect.field-0.0) c.args.self.now.record.writes c.args.self.now.record.number images a })
