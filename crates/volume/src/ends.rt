@@ -9,6 +9,7 @@ ghost use Rattle.volume.specs.Working.{image_at, taken};
 ghost use Rattle.volume.specs.Formatting.{too_short};
 ghost use Rattle.volume.specs.Mounting.{ahead_fault};
 
+use crate::down::Down;
 use crate::log_reader::LogReader;
 use crate::pages::{IMAGE, WorkingPages};
 use crate::store_reader::StoreReader;
@@ -21,26 +22,25 @@ use stores::PageStore;
 // The blocks that a log needs.
 pub(crate) const LOG_BLOCKS: usize = 129;
 
-// Powers on both ends.
-pub(crate) fn power_on<L: Medium, S: PageStore>(log: &mut L, store: &mut S)
-    ensures log { L.Medium.model log.new ≡ powered (L.Medium.model log.old) }
-    ensures store { S.PageStore.meaning store.new ≡ revived (S.PageStore.meaning store.old) }
-    ensures plan { S.PageStore.plan store.new ≡ S.PageStore.plan store.old }
-{
-    log.power_on();
-    store.power_on();
-}
+impl<K, L: Medium, S: PageStore> Down<K, L, S> {
+    // Powers on both ends.
+    pub(crate) fn power_on(&mut self)
+        ensures log { L.Medium.model self.new.log ≡ powered (L.Medium.model self.old.log) }
+        ensures store { S.PageStore.meaning self.new.store ≡ revived (S.PageStore.meaning self.old.store) }
+        ensures plan { S.PageStore.plan self.new.store ≡ S.PageStore.plan self.old.store }
+    {
+        self.log.power_on();
+        self.store.power_on();
+    }
 
-// Both ends, to be read, unless one is too short.
-pub(crate) fn readers<'a, L: Medium, S: PageStore>(
-    log: &'a L,
-    store: &'a S,
-) -> Result<(LogReader<'a, L>, StoreReader<'a, S>), Fault>
-    ensures answer { refusal result ≡ check (too_short (L.Medium.model log.now) (S.PageStore.meaning store.now)) (report TooShort) None }
-    ensures log { IfOk result (λ ends. ends.0.log.now ≡ log.now) }
-    ensures store { IfOk result (λ ends. ends.1.store.now ≡ store.now) }
-{
-    Ok((LogReader::new(log)?, StoreReader::new(store)?))
+    // Both ends, to be read, unless one is too short.
+    pub(crate) fn readers(&self) -> Result<(LogReader<'_, L>, StoreReader<'_, S>), Fault>
+        ensures answer { refusal result ≡ check (too_short (L.Medium.model self.now.log) (S.PageStore.meaning self.now.store)) (report TooShort) None }
+        ensures log { IfOk result (λ ends. ends.0.log.now ≡ self.now.log) }
+        ensures store { IfOk result (λ ends. ends.1.store.now ≡ self.now.store) }
+    {
+        Ok((LogReader::new(&self.log)?, StoreReader::new(&self.store)?))
+    }
 }
 
 impl<'a, L: Medium> LogReader<'a, L> {

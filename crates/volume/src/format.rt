@@ -7,7 +7,7 @@ ghost use Rattle.volume.specs.Models.{down_over};
 ghost use Rattle.volume.specs.Formatting.{blanks, all_pages, blank_images, format_check, Begun, Formatted};
 
 use crate::down::Down;
-use crate::ends::{LOG_BLOCKS, power_on, readers};
+use crate::ends::LOG_BLOCKS;
 use crate::pages::WorkingPages;
 use faults::Fault;
 use kinds::Kind;
@@ -44,7 +44,7 @@ impl<K: Kind, L: Medium, S: PageStore> Down<K, L, S> {
         if first == 0 {
             return Err(Fault::BadHeader);
         }
-        let _ = readers(&self.log, &self.store)?;
+        let _ = self.readers()?;
         Ok(())
     }
 
@@ -52,7 +52,7 @@ impl<K: Kind, L: Medium, S: PageStore> Down<K, L, S> {
     fn begin(&mut self, first: u32) -> Result<(), Fault>
         ensures { Begun first (down_over L.Medium S.PageStore self.old) (refusal result) (down_over L.Medium S.PageStore self.new) }
     {
-        power_on(&mut self.log, &mut self.store);
+        self.power_on();
         blank_log(&mut self.log)?;
         blank_store(&mut self.store)?;
         self.log.write(0, &header_block(first))

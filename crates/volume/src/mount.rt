@@ -9,9 +9,7 @@ ghost use Rattle.volume.specs.Surviving.{MountRecovers};
 ghost use Rattle.volume.specs.Recovering.{up_by, up_with, report_of};
 
 use crate::down::Down;
-use crate::ends::power_on;
 use crate::pages::WorkingPages;
-use crate::recover::recover;
 use crate::recovered::{Rebuilt, Recovered};
 use crate::up::Up;
 use faults::Fault;
@@ -48,13 +46,10 @@ impl<K: Kind, L: Medium, S: PageStore> Down<K, L, S> {
         ensures count { result.1 ≡ length (dirty_of result.0.dirty) }
         ensures recovers { MountRecovers K.Kind.meaning (down_over L.Medium S.PageStore self) }
     {
-        let Down {
-            mut log,
-            mut store,
-            kind,
-        } = self;
-        power_on(&mut log, &mut store);
-        let (recovered, status) = settled(recover::<K, L, S>(&log, &store));
+        let mut down = self;
+        down.power_on();
+        let (recovered, status) = settled(down.recover());
+        let Down { log, store, kind } = down;
         let Recovered {
             rebuilt: Rebuilt { pages, dirty },
             first,

@@ -1,9 +1,10 @@
 // Recovery: what a mount reads from the two ends and makes of it.
 ghost use Rattle.std.specs.Prelude.{◌≡◌, Some};
 ghost use Rattle.volume.specs.Mounting.{mounted, mounted_at};
+ghost use Rattle.volume.specs.Models.{down_over};
 ghost use Rattle.volume.specs.Recovering.{ends_over, up_with};
 
-use crate::ends::readers;
+use crate::down::Down;
 use crate::log_reader::LogReader;
 use crate::recovered::{Rebuilt, Recovered};
 use crate::store_reader::StoreReader;
@@ -37,14 +38,13 @@ fn recover_from<K: Kind, L: Medium, S: PageStore>(
     })
 }
 
-// The working pages, the operations redone and the two numbers that the ends give; or the fault with which the mount is refused.
-pub(crate) fn recover<K: Kind, L: Medium, S: PageStore>(
-    log: &L,
-    store: &S,
-) -> Result<Recovered, Fault>
-    ensures { up_with (ends_over L.Medium S.PageStore log.now store.now) result ≡ mounted K.Kind.meaning (ends_over L.Medium S.PageStore log.now store.now) }
-{
-    let (records, images) = readers(log, store)?;
-    let first = records.first_number().ok_or(Fault::BadHeader)?;
-    recover_from::<K, L, S>(&records, &images, first)
+impl<K: Kind, L: Medium, S: PageStore> Down<K, L, S> {
+    // The working pages, the operations redone and the two numbers that the ends give; or the fault with which the mount is refused.
+    pub(crate) fn recover(&self) -> Result<Recovered, Fault>
+        ensures { up_with (down_over L.Medium S.PageStore self.now) result ≡ mounted K.Kind.meaning (down_over L.Medium S.PageStore self.now) }
+    {
+        let (records, images) = self.readers()?;
+        let first = records.first_number().ok_or(Fault::BadHeader)?;
+        recover_from::<K, L, S>(&records, &images, first)
+    }
 }
