@@ -8,7 +8,7 @@ ghost use Rattle.logblocks.specs.Views.{view};
 ghost use Rattle.volume.specs.Working.{image_at};
 ghost use Rattle.volume.specs.Performing.{outcome, performed};
 
-use crate::operation::Operation;
+use crate::operation::{Admitted, Operation};
 use crate::pages::{FOUR, WorkingPages};
 use graph::Op;
 use kinds::{CONTENTS, Kind, Refusal};
@@ -44,16 +44,6 @@ impl<'a, K: Kind> Operation<'a, K> {
         }
     }
 
-    // The block of its record.
-    pub(crate) fn block(&self) -> [u8; 256]
-        requires { length self.now.record.body.now ≤ 232 }
-        ensures { result ≡ block_of (view self.now.record) }
-    {
-        let mut block = [0u8; 256];
-        let _ = self.record.write(&mut block);
-        block
-    }
-
     // Does the operation, with a buffer for the new contents that is as long as they are.
     fn perform_with(&self, pages: &mut WorkingPages, new: &mut [u8]) -> Result<(), Refusal>
         requires { length new.old ≡ 224 * size_of self.now.record.writes }
@@ -75,5 +65,17 @@ impl<'a, K: Kind> Operation<'a, K> {
         let mut new = [0u8; FOUR];
         let wanted = size(self.record.writes) as usize * CONTENTS;
         self.perform_with(pages, &mut new[0..wanted])
+    }
+}
+
+impl<'a, K: Kind> Admitted<'a, K> {
+    // The block of its record.
+    pub(crate) fn block(&self) -> [u8; 256]
+        ensures { result ≡ block_of (view self.now.operation.record) }
+    {
+        let record = self.operation.record;
+        let mut block = [0u8; 256];
+        let _ = record.write(&mut block);
+        block
     }
 }

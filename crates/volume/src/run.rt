@@ -6,7 +6,7 @@ ghost use Rattle.volume.specs.Working.{image_at};
 ghost use Rattle.volume.specs.Performing.{outcome};
 ghost use Rattle.volume.specs.Volumes.{admit_fault, room_fault, pages_fault, entered, run_fault, after_run};
 
-use crate::operation::Operation;
+use crate::operation::{Admitted, Operation};
 use crate::up::Up;
 use faults::Fault;
 use kinds::Kind;
@@ -37,11 +37,9 @@ impl<K: Kind, L: Medium, S: PageStore> Up<K, L, S> {
     }
 
     // The checks of a run ahead of the pages; the operation of the body, which will bear the next number.
-    fn admit<'a>(&self, body: &'a [u8]) -> Result<Operation<'a, K>, Fault>
+    fn admit<'a>(&self, body: &'a [u8]) -> Result<Admitted<'a, K>, Fault>
         ensures answer { refusal result ≡ admit_fault K.Kind.meaning (up_over L.Medium S.PageStore self.now) body.now }
-        ensures made { IfOk result (λ o. (o.record.number ≡ self.now.next) × (o.record.body.now ≡ body.now)) }
-        ensures long { OnOk result (length body.now ≤ 232) }
-        ensures left { OnOk result (self.now.next < 4294967295) }
+        ensures made { IfOk result (λ a. (a.operation.record.number ≡ self.now.next) × (a.operation.record.body.now ≡ body.now)) }
     {
         self.status?;
         if body.len() > LONGEST {
@@ -51,22 +49,21 @@ impl<K: Kind, L: Medium, S: PageStore> Up<K, L, S> {
             refusal.code(),
         ))?;
         self.check_room()?;
-        Ok(operation)
+        Ok(Admitted { operation })
     }
 
     // Does an admitted operation, lets its record wait and lists it as dirty.
-    fn enter(&mut self, operation: &Operation<K>) -> Result<u32, Fault>
-        requires next { operation.now.record.number ≡ self.old.next }
-        requires long { length operation.now.record.body.now ≤ 232 }
-        requires left { self.old.next < 4294967295 }
-        ensures answer { refusal result ≡ pages_fault (outcome K.Kind.meaning operation.now.record.body.now operation.now.record.reads (image_at self.old.pages.images)) }
+    fn enter(&mut self, admitted: &Admitted<K>) -> Result<u32, Fault>
+        requires { admitted.now.operation.record.number ≡ self.old.next }
+        ensures answer { refusal result ≡ pages_fault (outcome K.Kind.meaning admitted.now.operation.record.body.now admitted.now.operation.record.reads (image_at self.old.pages.images)) }
         ensures number { IfOk result (λ n. n ≡ self.old.next) }
-        ensures after { up_over L.Medium S.PageStore self.new ≡ entered (outcome K.Kind.meaning operation.now.record.body.now operation.now.record.reads (image_at self.old.pages.images)) operation.now.record.body.now operation.now.record.reads operation.now.record.writes (up_over L.Medium S.PageStore self.old) }
+        ensures after { up_over L.Medium S.PageStore self.new ≡ entered (outcome K.Kind.meaning admitted.now.operation.record.body.now admitted.now.operation.record.reads (image_at self.old.pages.images)) admitted.now.operation.record.body.now admitted.now.operation.record.reads admitted.now.operation.record.writes (up_over L.Medium S.PageStore self.old) }
     {
+        let operation = &admitted.operation;
         operation
             .perform(&mut self.pages)
             .map_err(|refusal| Fault::PagesRefused(refusal.code()))?;
-        let _ = self.waiting.push(&operation.block());
+        let _ = self.waiting.push(&admitted.block());
         let _ = self.dirty.push(operation.op());
         let number = self.next;
         self.next = number + 1;
@@ -79,7 +76,7 @@ impl<K: Kind, L: Medium, S: PageStore> Up<K, L, S> {
         ensures number { IfOk result (λ n. n ≡ self.old.next) }
         ensures after { up_over L.Medium S.PageStore self.new ≡ after_run K.Kind.meaning (up_over L.Medium S.PageStore self.old) body.now }
     {
-        let operation = self.admit(body)?;
-        self.enter(&operation)
+        let admitted = self.admit(body)?;
+        self.enter(&admitted)
     }
 }
