@@ -1,4 +1,4 @@
-use Rattle.std.proofs.Common.{length, sym, ap, ◌∙◌}
+use Rattle.std.proofs.Common.{sym, ap, ◌∙◌}
 use Rattle.faults.specs.Faults.{report, refusal}
 use Rattle.tables.specs.DirtyOps.{dirty}
 use Rattle.volume.specs.Models.{up_over}
