@@ -1,10 +1,8 @@
 // 64 pages of contents, and operations of any kind run on them.
-use kinds::Kind;
+use kinds::{CONTENTS, Kind};
 use sets::{contains, size};
 use std::alloc::{AllocError, Global};
 use std::io;
-
-const CONTENTS: usize = 224;
 
 type Contents = [u8; CONTENTS];
 

@@ -1,7 +1,7 @@
 // A memory chip with a store on a partition of it, and an install that is cut.
 use crate::survey::{Seen, survey};
 use media::{BLOCK, Left, MemoryMedium, Partition};
-use stores::{Journal, MediumStore, PageStore, Shadow, Way};
+use stores::{MediumStore, PageStore, Way};
 
 // A chip of 130 blocks; the store stands on 129 of them, from block 1 on.
 const CHIP: usize = 33280;
@@ -10,19 +10,6 @@ const IMAGES: usize = 16384;
 
 // Pages 3, 40 and 63.
 const PAGES: u64 = 1 << 3 | 1 << 40 | 1 << 63;
-
-// A way of installing, by the name of its store.
-pub trait Named: Way {
-    const NAME: &'static str;
-}
-
-impl Named for Journal {
-    const NAME: &'static str = "journal store";
-}
-
-impl Named for Shadow {
-    const NAME: &'static str = "shadow store";
-}
 
 // The power fails after so many writes, and leaves the block of the next old or new.
 #[derive(Clone, Copy)]
@@ -71,10 +58,8 @@ fn medium<'a>(bytes: &'a mut [u8], fuse: Option<Cut>) -> Partition<MemoryMedium<
 fn install<W: Way>(bytes: &mut [u8], fuse: Option<Cut>, old: u8) -> Option<Seen> {
     let mut store: MediumStore<_, W> = MediumStore::new(medium(bytes, fuse));
     let new = old.saturating_add(1);
-    match store.install(PAGES, &images(new)) {
-        Ok(()) => None,
-        Err(fault) => Some(survey(&mut store, PAGES, fault.place(), old, new)),
-    }
+    let fault = store.install(PAGES, &images(new)).err()?;
+    Some(survey(&mut store, PAGES, fault.place(), old, new))
 }
 
 // On a new chip: installs version 1; then version 2, cut as `earlier` says, if it does; then one version more, cut as `cut` says.

@@ -5,47 +5,49 @@ mod chip;
 mod report;
 mod survey;
 
-use chip::{Cut, Named};
+use chip::Cut;
 use media::Left;
 use std::io;
-use stores::{Journal, Shadow};
+use stores::{Journal, Shadow, Way};
 
 // The writes of an install are counted by trying: a fuse that does not blow ends the round.
 const MOST_WRITES: u64 = 64;
 
+// The store that is cut in two rounds.
+const JOURNAL: &'static str = "journal store";
+
 // Every cut of one install; the install before it may itself have been cut, as `earlier` says.
-fn round<W: Named>(rt: &HostRuntime, earlier: Option<Cut>) -> io::Result<()> {
+fn round<W: Way>(rt: &HostRuntime, store: &str, earlier: Option<Cut>) -> io::Result<()> {
     let mut all = Vec::new(rt.alloc());
     for write in 0..MOST_WRITES {
         for left in [Left::Old, Left::New] {
             let cut = Cut { write, left };
             let Some(seen) = chip::cut_once::<W>(earlier, cut) else {
-                return report::closing(rt, W::NAME, &all);
+                return report::closing(rt, store, &all);
             };
             report::line(rt, &cut, &seen)?;
             all.push(seen)?;
         }
     }
-    report::closing(rt, W::NAME, &all)
+    report::closing(rt, store, &all)
 }
 
 // Every cut of an install on a new store, under its name.
-fn headed_round<W: Named>(rt: &HostRuntime) -> io::Result<()> {
-    let store = W::NAME;
+fn headed_round<W: Way>(rt: &HostRuntime, store: &str) -> io::Result<()> {
     println!(rt; "")?;
     println!(rt; "{store}")?;
-    round::<W>(rt, None)
+    round::<W>(rt, store, None)
 }
 
 fn main(rt: HostRuntime) -> io::Result<()> {
     println!(rt; "power cut at each block write of an install of pages 3, 40 and 63")?;
-    headed_round::<Journal>(&rt)?;
-    headed_round::<Shadow>(&rt)?;
+    headed_round::<Journal>(&rt, JOURNAL)?;
+    headed_round::<Shadow>(&rt, "shadow store")?;
     println!(rt; "")?;
     println!(rt; "journal store, cut before at write 6, so that the next install settles first")?;
     let earlier = Cut {
         write: 5,
         left: Left::Old,
     };
-    round::<Journal>(&rt, Some(earlier))
+    round::<Journal>(&rt, JOURNAL, Some(earlier))
 }

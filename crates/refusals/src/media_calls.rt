@@ -1,8 +1,6 @@
 // The memory medium, its fuse, and partitions.
 use faults::Fault;
-use media::{Left, Medium, MemoryMedium, Partition};
-
-const BLOCK: usize = 256;
+use media::{BLOCK, Left, Medium, MemoryMedium, Partition};
 
 #[test]
 fn as_many_blocks_as_fit(rt: HostRuntime) {
