@@ -1,5 +1,5 @@
 -- What the calls' contracts say, as calls of a life.
-use Rattle.std.proofs.Common.{◌≡◌, ℕ, ◌-◌, List, length, IfOk, Ok, Err, Result, sym, refl, ap, ◌∙◌, subst, ap₂}
+use Rattle.std.proofs.Common.{◌≡◌, ℕ, ◌-◌, List, length, IfOk, Ok, Err, Result, Option, Some, None, MatchOption, sym, refl, ap, ◌∙◌, subst, ap₂}
 use Rattle.sets.specs.Sets.{size}
 use Rattle.faults.specs.declared.fault.Fault.{Fault}
 use Rattle.faults.specs.Faults.{refusal}
@@ -12,6 +12,7 @@ use Rattle.volume.specs.Volumes.{Ends, Volume, run_fault, after_run}
 use Rattle.volume.specs.Forcing.{Forced, Trimmed}
 use Rattle.volume.specs.Flushing.{Flushed}
 use Rattle.volume.specs.Mounting.{mounted}
+use Rattle.volume.specs.Recovering.{report_of}
 use Rattle.lives.specs.Books.Event.{run, force, flush, trim, stop, mount}
 use Rattle.lives.specs.Lives.{answered, ends_of, fate_by, Steps}
 use Rattle.lives.specs.Lives.State.{down, up}
@@ -48,6 +49,12 @@ mount-steps k e v r same count fault =
     (subst (λ a. Steps k (down e) (mount a) (up (mounted k e)))
     (sym (ap (λ w. answered (length w.dirty) (halted_by w.status)) same) ∙ ap (answered (length v.dirty)) (sym fault) ∙ answer-is r (length v.dirty) count)
     (mounts e))
+
+-- the same for an answer by the fault that the volume shows
+pub mount-steps-by : (k : Meaning) (e : Ends) (v : Volume) (f : Option Fault) (n : ℕ) (r : Result ℕ Fault) → v ≡ mounted k e → n ≡ length v.dirty → report_of f ≡ halted_by v.status
+    → MatchOption f (r ≡ Ok n) (λ x. r ≡ Err x) → Steps k (down e) (mount (reported r)) (up v)
+mount-steps-by k e v None n r same count fault is = mount-steps k e v r same (subst (λ a. IfOk a (λ m. m ≡ length v.dirty)) (sym is) count) (ap refusal is ∙ fault)
+mount-steps-by k e v (Some x) n r same count fault is = mount-steps k e v r same (subst (λ a. IfOk a (λ m. m ≡ length v.dirty)) (sym is) tt) (ap refusal is ∙ fault)
 
 -- ends in code that are equal are the same ends
 pub same_ends : {L S : Type 0} (model : L → Device) (meaning : S → Store) (plan : S → ℕ → List ℕ) {l l' : L} {s s' : S} → l ≡ l' → s ≡ s'

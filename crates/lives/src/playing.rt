@@ -61,10 +61,8 @@ fn mount<K: Kind, L: Medium, S: PageStore>(
     ensures { Steps K.Kind.meaning (down_state L.Medium S.PageStore volume) (mount (reported result.1)) (up_state L.Medium S.PageStore result.0) }
 {
     let (volume, redone) = volume.mount();
-    match volume.fault() {
-        None => (volume, Ok(redone)),
-        Some(fault) => (volume, Err(fault)),
-    }
+    let answer = volume.fault().map_or(Ok(redone), Err);
+    (volume, answer)
 }
 
 // A stop, as a call of a life.

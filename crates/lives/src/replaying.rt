@@ -25,7 +25,7 @@ fn play_all<K: Kind, L: Medium, S: PageStore>(
 {
     let n = calls.len().min(answers.len());
     let mut volume = volume;
-    // Kept: the answers by index, since behind a zip over `iter_mut` a proof knows nothing of what was written.
+    // Kept: tried: behind a zip over iter_mut a proof knows nothing of what was written, so the answers are written by index.
     for (i, call) in calls[..n].iter().enumerate() {
         let (next, answer) = play(volume, *call);
         volume = next;
