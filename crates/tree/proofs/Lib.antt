@@ -1,3 +1,4 @@
+pub mod FreshLaws
 pub mod FrontLaws
 pub mod MapLaws
 pub mod SortedLaws

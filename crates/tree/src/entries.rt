@@ -119,13 +119,11 @@ pub(crate) fn fresh(c: &[u8]) -> bool
     ensures { result ≡ fresh_of (count_of c.now) (λ _. false) (entries c.now) }
 {
     let n = byte(c, 1);
-    let mut seen = 0;
-    for entry in Entries::of(c) {
-        let value = entry.value;
-        if value == 0 || value > u32::from(n) || contains(seen, value) {
-            return false;
-        }
-        seen = union(seen, single(value));
-    }
-    true
+    Entries::of(c)
+        .try_fold(0, |seen, entry| {
+            let value = entry.value;
+            let first = 1 <= value && value <= u32::from(n) && !contains(seen, value);
+            first.then_some(union(seen, single(value)))
+        })
+        .is_some()
 }

@@ -42,7 +42,7 @@ fn place_entry(new: &mut [u8], at: usize, entry: Entry)
     place(new, at + 4, &word);
 }
 
-// Kept: slices whose lengths are asked: with arrays the steps unwrap twelve of them to spare these functions the clause.
+// Kept: here and in the steps, slices whose lengths are asked, old and new apart: Kind::effect gets these two, and arrays take twelve unwraps.
 
 // Writes a page with an entry in place of the entries of a range: of one, or of none.
 pub(crate) fn splice(old: &[u8], new: &mut [u8], mark: u8, range: Range<usize>, entry: Entry)
