@@ -2,23 +2,20 @@
 use crate::story;
 use media::{MemoryMedium, Partition};
 use std::io;
-use stores::PageStore;
+use stores::{MediumStore, Way};
 use volume::Down;
 
-pub const CHIP: usize = 33280;
+const CHIP: usize = 33280;
 
 const BLOCKS: usize = 129;
 
-// The bench run on the store that `store_on` makes.
-pub fn run<'a, S: PageStore + Drop, F: FnOnce(Partition<MemoryMedium<'a>>) -> S>(
-    rt: &HostRuntime,
-    log: &'a mut [u8; CHIP],
-    pages: &'a mut [u8; CHIP],
-    store_on: F,
-) -> io::Result<()>
-    requires { F.IsAlwaysCallable store_on }
-{
-    let log = Partition::new(MemoryMedium::new(log), 1, BLOCKS);
-    let store = store_on(Partition::new(MemoryMedium::new(pages), 1, BLOCKS));
+// The bench run on new chips, under the name of the store.
+pub fn run<W: Way>(rt: &HostRuntime, name: &str) -> io::Result<()> {
+    let mut log = [0u8; CHIP];
+    let mut pages = [0u8; CHIP];
+    let log = Partition::new(MemoryMedium::new(&mut log), 1, BLOCKS);
+    let pages = Partition::new(MemoryMedium::new(&mut pages), 1, BLOCKS);
+    let store: MediumStore<_, W> = MediumStore::new(pages);
+    println!(rt; "{name}")?;
     story::all(rt, Down::new(log, store))
 }

@@ -5,21 +5,11 @@ mod chips;
 mod story;
 mod tell;
 
-use chips::CHIP;
 use std::io;
-use stores::{JournalStore, ShadowStore};
+use stores::{Journal, Shadow};
 
 fn main(rt: HostRuntime) -> io::Result<()> {
-    println!(rt; "journal store")?;
-    let (mut log, mut pages) = ([0; CHIP], [0; CHIP]);
-    chips::run(
-        &rt,
-        &mut log,
-        &mut pages,
-        |medium| JournalStore::new(medium),
-    )?;
+    chips::run::<Journal>(&rt, "journal store")?;
     println!(rt; "")?;
-    println!(rt; "shadow store")?;
-    let (mut log, mut pages) = ([0; CHIP], [0; CHIP]);
-    chips::run(&rt, &mut log, &mut pages, |medium| ShadowStore::new(medium))
+    chips::run::<Shadow>(&rt, "shadow store")
 }

@@ -50,7 +50,10 @@ pub fn groups(rt: &HostRuntime, page: u32, answer: Result<(u64, u64), Fault>) ->
             let (group, before) = (Pages(group), Pages(before));
             println!(rt; "  group of page {page}:{group}, directly before it:{before}")
         }
-        Err(fault) => println!(rt; "  group of page {page}: refused, {fault}"),
+        Err(fault) => {
+            let refused = Refused::from(fault);
+            println!(rt; "  group of page {page}: {refused}")
+        }
     }
 }
 
@@ -62,7 +65,8 @@ pub fn page<K: Kind, L: Medium, S: PageStore>(
 ) -> io::Result<()> {
     let mut image = [0u8; 256];
     if let Err(fault) = up.page(page, &mut image) {
-        return println!(rt; "  page {page}: refused, {fault}");
+        let refused = Refused::from(fault);
+        return println!(rt; "  page {page}: {refused}");
     }
     let number = u32::read_at(&image, 0);
     let byte = image[4];

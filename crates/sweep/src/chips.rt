@@ -4,25 +4,12 @@ use crate::plan::Plan;
 use media::{Left, MemoryMedium, Partition};
 use std::alloc::{AllocError, Global};
 use std::fmt;
-use stores::{Journal, MediumStore, Shadow, Way};
+use stores::{MediumStore, Way};
 use volume::Down;
 
 const CHIP: usize = 33280;
 
 const BLOCKS: usize = 129;
-
-// A way of installing, by the name of its store.
-pub trait Named: Way {
-    const NAME: &'static str;
-}
-
-impl Named for Journal {
-    const NAME: &'static str = "journal store";
-}
-
-impl Named for Shadow {
-    const NAME: &'static str = "shadow store";
-}
 
 #[derive(Clone, Copy, PartialEq, Eq)]
 pub enum Chip {

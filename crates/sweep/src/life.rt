@@ -12,19 +12,11 @@ use stores::PageStore;
 use volume::Up;
 
 // Answers that the book does not expect, mounts that were refused, pages that are not as the book says.
-#[derive(Clone, Copy, PartialEq, Eq)]
+#[derive(Clone, Copy, Default, PartialEq, Eq)]
 pub struct Trouble {
     odd: usize,
     refused: usize,
     wrong: usize,
-}
-
-impl Trouble {
-    pub const NONE: Trouble = Trouble {
-        odd: 0,
-        refused: 0,
-        wrong: 0,
-    };
 }
 
 impl fmt::Display for Trouble {
@@ -64,7 +56,7 @@ impl<'a> Life<'a> {
             left,
             turn: 0,
             number: 0,
-            trouble: Trouble::NONE,
+            trouble: Trouble::default(),
         }
     }
 

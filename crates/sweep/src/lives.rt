@@ -29,7 +29,7 @@ pub struct Course {
 impl Course {
     // Whether all was as the book says.
     pub fn is_good(&self) -> bool {
-        self.trouble == Trouble::NONE
+        self.trouble == Trouble::default()
     }
 }
 

@@ -11,7 +11,7 @@ mod report;
 mod script;
 mod tally;
 
-use chips::{Chip, Cut, Named};
+use chips::{Chip, Cut};
 use lives::Course;
 use media::Left;
 use plan::Plan;
@@ -41,17 +41,17 @@ impl<'a> Sweep<'a> {
         }
     }
 
-    // How many writes the format makes on a chip: so many can pass before one dies outside it.
-    fn format_writes<W: Way>(&self, chip: Chip) -> Result<u64, AllocError> {
+    // How many writes the format makes on a chip: so many can pass before one dies outside it. None if it makes more than a life has.
+    fn format_writes<W: Way>(&self, chip: Chip) -> Result<Option<u64>, AllocError> {
         for write in 0..MOST_WRITES {
             let left = Left::Old;
             let mut plan = Plan::new(self.rt.alloc(), 0);
             let cut = Cut { chip, write, left };
             if chips::run::<W>(self.rt.alloc(), Some(cut), &mut plan)?.is_some() {
-                return Ok(write);
+                return Ok(Some(write));
             }
         }
-        Ok(MOST_WRITES)
+        Ok(None)
     }
 
     // Enters that something was wrong.
@@ -113,10 +113,13 @@ impl<'a> Sweep<'a> {
     }
 
     // All orders.
-    fn all_orders<W: Named>(&mut self) -> io::Result<()> {
-        let (rt, store) = (self.rt, W::NAME);
+    fn all_orders<W: Way>(&mut self, store: &str) -> io::Result<()> {
+        let rt = self.rt;
         let log = self.format_writes::<W>(Chip::Log)?;
         let pages = self.format_writes::<W>(Chip::Pages)?;
+        let (Some(log), Some(pages)) = (log, pages) else {
+            return self.blame(None, &"the format has more writes than were cut");
+        };
         println!(rt;
             "{store}, behind the format's {log} writes of the log and {pages} of the store"
         )?;
@@ -132,9 +135,9 @@ fn main(rt: HostRuntime) -> io::Result<()> {
     println!(rt; "power cut at each block write of a life of three days, left old and left new")?;
     println!(rt; "")?;
     let mut journal = Sweep::new(&rt);
-    journal.all_orders::<Journal>()?;
+    journal.all_orders::<Journal>("journal store")?;
     let mut shadow = Sweep::new(&rt);
-    shadow.all_orders::<Shadow>()?;
+    shadow.all_orders::<Shadow>("shadow store")?;
     let mut all = Tally::new(rt.alloc());
     all.add(&journal.tally)?;
     all.add(&shadow.tally)?;

@@ -1,7 +1,6 @@
 // The pages as the operations make them, computed by hand: 64 numbers, and 64 contents of 224 bytes.
+use kinds::CONTENTS;
 use sets::Number;
-
-const CONTENTS: usize = 224;
 
 type Contents = [u8; CONTENTS];
 
