@@ -8,6 +8,7 @@ use kinds::PageKind;
 use media::{BLOCK, Left, Medium};
 use std::alloc::{AllocError, Global};
 use std::fmt;
+use std::ops::ControlFlow;
 use stores::PageStore;
 use volume::Up;
 
@@ -40,6 +41,14 @@ pub struct Life<'a> {
     turn: usize,
     number: usize,
     trouble: Trouble,
+}
+
+// A life goes on after an answer, unless the power failed.
+fn flow(answer: Result<u32, Fault>) -> ControlFlow<()> {
+    match answer {
+        Err(Fault::PowerLost(_)) => ControlFlow::Break(()),
+        _ => ControlFlow::Continue(()),
+    }
 }
 
 // Whether a page is not as the book says.
@@ -85,52 +94,52 @@ impl<'a> Life<'a> {
         self.number = self.plan.order();
     }
 
-    // A run was answered; says whether the power failed. So do the others.
+    // A run was answered; the life breaks off if the power failed. So it does with the others.
     fn ran(
         &mut self,
         body: &'static [u8],
         expected: Result<(), Fault>,
         answer: Result<u32, Fault>,
-    ) -> Result<bool, AllocError> {
+    ) -> Result<ControlFlow<()>, AllocError> {
         let next = self.book.next();
         self.expect(answer == expected.map(|()| next));
         if answer.is_ok() {
             self.book.accept(body)?;
         }
-        Ok(matches!(answer, Err(Fault::PowerLost(_))))
+        Ok(flow(answer))
     }
 
-    fn forced(&mut self, answer: Result<u32, Fault>) -> bool {
+    fn forced(&mut self, answer: Result<u32, Fault>) -> ControlFlow<()> {
         match answer {
             Ok(number) => {
                 let expected = number == self.book.next().saturating_sub(1);
                 self.expect(expected);
                 self.book.force();
-                false
             }
             Err(Fault::PowerLost(block)) => {
                 let found = self.book.cut_force(block, self.left);
                 self.expect(found);
-                true
             }
-            Err(_) => {
-                self.expect(false);
-                false
-            }
+            Err(_) => self.expect(false),
         }
+        flow(answer)
     }
 
     // A flush or a trim, which change nothing in the book.
-    fn answered(&mut self, expected: Result<(), Fault>, answer: Result<u32, Fault>) -> bool {
-        let lost = matches!(answer, Err(Fault::PowerLost(_)));
-        self.expect(lost || answer.map(|_| ()) == expected);
-        lost
+    fn answered(
+        &mut self,
+        expected: Result<(), Fault>,
+        answer: Result<u32, Fault>,
+    ) -> ControlFlow<()> {
+        let flow = flow(answer);
+        self.expect(flow.is_break() || answer.map(|_| ()) == expected);
+        flow
     }
 
     fn flush_ready<L: Medium, S: PageStore>(
         &mut self,
         up: &mut Up<PageKind, L, S>,
-    ) -> Result<bool, AllocError> {
+    ) -> Result<ControlFlow<()>, AllocError> {
         let (page, number) = self.plan.choose(up, self.turn, self.number)?;
         self.turn = self.turn.saturating_add(1);
         self.number = number;
@@ -138,17 +147,17 @@ impl<'a> Life<'a> {
             Some(page) => Ok(self.answered(Ok(()), up.flush(page))),
             None => {
                 self.expect(false);
-                Ok(false)
+                Ok(ControlFlow::Continue(()))
             }
         }
     }
 
-    // Makes a call; says whether the power failed in it.
+    // Makes a call; the life breaks off if the power failed in it.
     pub fn make<L: Medium, S: PageStore>(
         &mut self,
         up: &mut Up<PageKind, L, S>,
         call: Call,
-    ) -> Result<bool, AllocError> {
+    ) -> Result<ControlFlow<()>, AllocError> {
         match call {
             Call::Run(body, expected) => self.ran(body, expected, up.run(body)),
             Call::Force => Ok(self.forced(up.force())),

@@ -40,7 +40,7 @@ fn make_all<L: Medium, S: PageStore>(
     life: &mut Life,
 ) -> Result<Option<usize>, AllocError> {
     for (i, call) in script.iter().enumerate() {
-        if life.make(up, *call)? {
+        if life.make(up, *call)?.is_break() {
             return Ok(Some(i));
         }
     }

@@ -16,6 +16,7 @@ use lives::Course;
 use media::Left;
 use plan::Plan;
 use std::alloc::AllocError;
+use std::ops::ControlFlow;
 use std::{fmt, io};
 use stores::{Journal, Shadow, Way};
 use tally::{Seen, Tally, recovered};
@@ -68,14 +69,14 @@ impl<'a> Sweep<'a> {
         self.blame(cut, &course.trouble)
     }
 
-    // One cut; says whether the write was still of the life.
-    fn one_cut<W: Way>(&mut self, cut: Cut, plan: &mut Plan) -> io::Result<bool> {
+    // One cut; the cuts break off where the write is no more of the life.
+    fn one_cut<W: Way>(&mut self, cut: Cut, plan: &mut Plan) -> io::Result<ControlFlow<()>> {
         let Some(course) = chips::run::<W>(self.rt.alloc(), Some(cut), plan)? else {
             self.blame(Some(cut), &"the format died")?;
-            return Ok(true);
+            return Ok(ControlFlow::Continue(()));
         };
         let Some(place) = course.died else {
-            return Ok(false);
+            return Ok(ControlFlow::Break(()));
         };
         self.judge(Some(cut), &course)?;
         let (redone, good) = (course.redone, course.is_good());
@@ -85,14 +86,15 @@ impl<'a> Sweep<'a> {
             redone,
             good,
         })?;
-        Ok(true)
+        Ok(ControlFlow::Continue(()))
     }
 
     // Every write of a chip from a write on, left old and left new.
     fn chip_cuts<W: Way>(&mut self, chip: Chip, start: u64, plan: &mut Plan) -> io::Result<()> {
         for write in start..start.saturating_add(MOST_WRITES) {
             for left in [Left::Old, Left::New] {
-                if !self.one_cut::<W>(Cut { chip, write, left }, plan)? {
+                let cut = Cut { chip, write, left };
+                if self.one_cut::<W>(cut, plan)?.is_break() {
                     return Ok(());
                 }
             }
