@@ -2,6 +2,7 @@
 use graph::Op;
 use std::io;
 
+// Kept: this and `copy` stand in graph's tests too; a crate for both would be longer than they are.
 fn fill(number: u32, page: u32) -> Op {
     Op {
         number,

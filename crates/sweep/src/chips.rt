@@ -43,6 +43,7 @@ impl fmt::Display for Cut {
 }
 
 // A partition of a chip, with a fuse if it is the one to be cut.
+// Kept: powercut and bench put partitions on chips too, each with fuses of its own; a crate for these lines would be longer than they are.
 fn part<'a>(bytes: &'a mut [u8], chip: Chip, cut: Option<Cut>) -> Partition<MemoryMedium<'a>> {
     let mut medium = MemoryMedium::new(bytes);
     if let Some(cut) = cut.filter(|cut| cut.chip == chip) {
