@@ -37,6 +37,7 @@ fn write_records<L: Medium>(log: &mut L, blocks: &[[u8; BLOCK]]) -> (usize, Resu
 
 impl<K: Kind, L: Medium, S: PageStore> Up<K, L, S> {
     // Takes note of how a call ended: where the power failed, a well volume is halted.
+    // Kept: a match on the status and the outcome together, changed in place, is a rule of the project; `?` would hide which of the two decides.
     pub(crate) fn settle(&mut self, outcome: Result<(), Fault>) -> Result<(), Fault>
         ensures answer { result ≡ outcome }
         ensures after { up_over L.Medium S.PageStore self.new ≡ noted (refusal outcome) (up_over L.Medium S.PageStore self.old) }

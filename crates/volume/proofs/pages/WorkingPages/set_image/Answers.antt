@@ -1,14 +1,7 @@
 use Rattle.std.proofs.Common.{◌≡◌, ◌<◌, cond, eqb, length, ap, ◌∙◌, arith}
 use Rattle.volume.specs.Working.{image_at}
-use Rattle.volume.proofs.WorkingLaws.{put-length, put-image}
+use Rattle.volume.proofs.WorkingLaws.{put-image}
 use Rattle.volume.proofs.pages.WorkingPages.set_image.Goals as goal
-
-pub invariant_of-self : goal.invariant_of-self
-invariant_of-self c =
-    let same = c.copy_from_slice.ensures.after in
-    let p : c.index-at.result < 64 = omega (arith, c.index-at.ensures) in
-    let long : length c.args.image.now ≡ 256 = omega arith in
-    record { sized = put-length c.args.self.now.images c.copy_from_slice.new.self c.index-at.result c.args.self.now.sized p (ap length same ∙ long) }
 
 pub returns : goal.returns
 returns c = λ q.
