@@ -12,9 +12,10 @@ pub trait Medium {
     // the blocks, and whether the medium is live
     ghost model: { Self → Device };
 
-    // How many blocks there are; this never changes.
+    // How many blocks there are, each of 256 bytes; this never changes.
     fn count(&self) -> usize
-        ensures { result ≡ block_count (model self.now) };
+        ensures count { result ≡ block_count (model self.now) }
+        ensures whole { Whole (model self.now) };
 
     // Reads a block, live or dead.
     fn read(&self, block: usize, buffer: &mut [u8]) -> Result<(), Fault>
@@ -28,7 +29,4 @@ pub trait Medium {
     // Power-on: the medium is live, and no block changes.
     fn power_on(&mut self)
         ensures after { model self.new ≡ powered (model self.old) };
-
-    // each block has 256 bytes
-    ghost whole: { (m : Self) → Whole (model m) };
 }

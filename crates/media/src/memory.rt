@@ -4,7 +4,6 @@ ghost use Rattle.media.specs.declared.fuse.Fuse.TheVariants.{Absent, Armed};
 ghost use Rattle.faults.specs.Faults.{refusal};
 ghost use Rattle.media.specs.Media.{begins, read_fault, Wrote, WroteBy, powered};
 ghost use Rattle.media.specs.Memory.{memory, blocks_of, behind, fitting, fate_of, burnt, renewed, KeepsHost};
-ghost use Rattle.media.specs.WholeLaws.{blocks-whole};
 
 use crate::fate::Fate;
 use crate::fuse::{Fuse, Left};
@@ -94,8 +93,6 @@ impl<'a> MemoryMedium<'a> {
 
 impl<'a> Medium for MemoryMedium<'a> {
     ghost model = { memory };
-
-    ghost whole = { λ m. blocks-whole m.bytes.now m.live };
 
     fn count(&self) -> usize {
         self.bytes.len() / BLOCK

@@ -2,9 +2,8 @@
 ghost use Rattle.std.specs.Prelude.{◌≡◌, ℕ, ◌+◌, ◌^◌, ◌<◌, ◌≤◌, MatchResult};
 ghost use Rattle.faults.specs.declared.fault.Fault.TheVariants.{NoSuchBlock};
 ghost use Rattle.faults.specs.Faults.{refusal, report};
-ghost use Rattle.media.specs.Media.{Wrote, powered, block_count};
+ghost use Rattle.media.specs.Media.{Whole, Wrote, powered, block_count};
 ghost use Rattle.media.specs.Parts.{part, retell, SameOutside};
-ghost use Rattle.media.specs.WholeLaws.{part-whole};
 
 use crate::medium::Medium;
 use faults::Fault;
@@ -46,6 +45,7 @@ impl<M: Medium> Partition<M> {
     // How many blocks the partition has: none where the medium is too short for it.
     fn length(&self) -> usize
         ensures count { result ≡ block_count (part M.Medium.model self.now) }
+        ensures whole { Whole (part M.Medium.model self.now) }
         ensures room { (b : ℕ) → b < result → self.now.first + b < 2 ^ 64 }
     {
         let count = self.medium.count();
@@ -78,8 +78,6 @@ fn retold(fault: Fault, block: usize) -> Fault
 
 impl<M: Medium> Medium for Partition<M> {
     ghost model = { part M.Medium.model };
-
-    ghost whole = { λ p. part-whole p.first p.blocks (M.Medium.model p.medium) (M.Medium.whole p.medium) };
 
     fn count(&self) -> usize {
         self.length()

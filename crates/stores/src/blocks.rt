@@ -1,9 +1,9 @@
 // The blocks of a store: images in 0 to 127, two for each page, and a set in block 128.
-ghost use Rattle.std.specs.Prelude.{◌≡◌, ◌<◌, ◌≤◌, [], ◌∷◌, None, not, nat_le, IfOk};
+ghost use Rattle.std.specs.Prelude.{◌≡◌, ◌<◌, ◌≤◌, [], ◌∷◌, None, not, nat_le, IfOk, OnOk};
 ghost use Rattle.sets.specs.Sets.{has};
 ghost use Rattle.faults.specs.Faults.{refusal, report};
 ghost use Rattle.faults.specs.declared.fault.Fault.TheVariants.{TooShort};
-ghost use Rattle.media.specs.Media.{block_count, block_at, check};
+ghost use Rattle.media.specs.Media.{Whole, block_count, block_at, check};
 ghost use Rattle.media.specs.Plans.{Ran};
 ghost use Rattle.stores.specs.Images.{image_of, pictured};
 ghost use Rattle.stores.specs.Layout.{slot, set_in, block_of_set};
@@ -42,14 +42,12 @@ fn slot_of(upper: u64, page: Page) -> usize
 }
 
 // Reads the image in a block.
-fn load_image<M: Medium>(medium: &M, block: usize) -> [u8; BLOCK]
+fn load_image<M: Medium>(medium: &M, block: usize, image: &mut [u8; BLOCK])
     requires there { block < block_count (M.Medium.model medium.now) }
-    ensures { result ≡ image_of (block_at (M.Medium.model medium.now) block) }
+    ensures image { image.new ≡ image_of (block_at (M.Medium.model medium.now) block) }
 {
-    let mut image = [0u8; BLOCK];
-    let _ = medium.read(block, &mut image);
+    let _ = medium.read(block, image);
     image[STORED..].fill(0);
-    image
 }
 
 // Reads the set in block 128; the empty set where there is no such block.
@@ -131,7 +129,8 @@ fn bring_home<M: Medium>(medium: &mut M, mark: u64, page: Page) -> Result<(), Fa
     if !contains(mark, page.number) {
         return Ok(());
     }
-    let image = load_image(medium, slot_of(EVERY_PAGE, page));
+    let mut image = [0u8; BLOCK];
+    load_image(medium, slot_of(EVERY_PAGE, page), &mut image);
     medium.write(slot_of(0, page), &image)
 }
 
@@ -144,7 +143,7 @@ pub(crate) fn read_page<M: Medium>(medium: &M, page: u32, buffer: &mut [u8]) -> 
     let length = buffer.len();
     let image: &mut [u8; BLOCK] = buffer.as_mut_array().ok_or(Fault::WrongLength(length))?;
     long_enough(medium)?;
-    *image = load_image(medium, slot_of(load_set(medium), page));
+    load_image(medium, slot_of(load_set(medium), page), image);
     Ok(())
 }
 
@@ -178,6 +177,7 @@ pub(crate) fn install_allowed<'a, M: Medium>(
 ) -> Result<&'a [u8; IMAGES], Fault>
     ensures answer { refusal result ≡ install_check (M.Medium.model medium.now) images.now }
     ensures images { IfOk result (λ all. all.now ≡ images.now) }
+    ensures whole { OnOk result (Whole (M.Medium.model medium.now)) }
 {
     let all = images.as_array().ok_or(Fault::WrongLength(images.len()))?;
     long_enough(medium)?;
@@ -186,7 +186,8 @@ pub(crate) fn install_allowed<'a, M: Medium>(
 
 // A medium with fewer blocks than a store needs makes it short.
 fn long_enough<M: Medium>(medium: &M) -> Result<(), Fault>
-    ensures { refusal result ≡ check (not (nat_le 129 (block_count (M.Medium.model medium.now)))) (report TooShort) None }
+    ensures answer { refusal result ≡ check (not (nat_le 129 (block_count (M.Medium.model medium.now)))) (report TooShort) None }
+    ensures whole { Whole (M.Medium.model medium.now) }
 {
     if medium.count() < STORE_BLOCKS {
         return Err(Fault::TooShort);

@@ -21,6 +21,6 @@ returns g c =
     let o = refusal c.write.result in
     record {
       ran = page-in 0 c.args.mark (λ p. image_of (block_at m (slot every_page p))) p m m' o (sym c.if-not-contains.ensures)
-          (ran-wrote (image_write 0 (λ p. image_of (block_at m (slot every_page p))) p) m m' c.slot_of-2.result c.load_image-image.result o c.write.ensures.wrote c.slot_of-2.ensures
-          (c.load_image-image.ensures ∙ ap (λ b. image_of (block_at m b)) c.slot_of.ensures));
+          (ran-wrote (image_write 0 (λ p. image_of (block_at m (slot every_page p))) p) m m' c.slot_of-2.result c.load_image.new.image o c.write.ensures.wrote c.slot_of-2.ensures
+          (c.load_image.ensures.image ∙ ap (λ b. image_of (block_at m b)) c.slot_of.ensures));
     }
