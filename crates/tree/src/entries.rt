@@ -15,6 +15,18 @@ pub(crate) struct Entry {
     pub value: u32,
 }
 
+impl Entry {
+    // The entry in the first eight of some bytes.
+    fn first(bytes: &[u8]) -> Entry
+        ensures { pair result ≡ (number (part 0 4 bytes.now), number (part 4 4 bytes.now)) }
+    {
+        Entry {
+            key: u32::read_at(bytes, 0),
+            value: u32::read_at(bytes, 4),
+        }
+    }
+}
+
 // The byte at a place.
 pub fn byte(c: &[u8], at: usize) -> u8
     ensures { result ≡ slice_index c.now at }
@@ -42,6 +54,17 @@ fn past(bytes: &[u8], n: usize) -> &[u8]
     ensures { result.now ≡ drop n bytes.now }
 {
     bytes.get(n..).unwrap_or(&[])
+}
+
+// The entry in the first eight of some bytes, and the bytes behind it. Of an array the length is known, which makes the reading short.
+fn split_entry(bytes: &[u8]) -> (Entry, &[u8])
+    ensures entry { pair result.0 ≡ (number (part 0 4 bytes.now), number (part 4 4 bytes.now)) }
+    ensures rest { result.1.now ≡ drop 8 bytes.now }
+{
+    match bytes.split_first_chunk::<8>() {
+        Some((head, rest)) => (Entry::first(head), rest),
+        None => (Entry::first(bytes), &[]),
+    }
 }
 
 // Entries that are still to read.
@@ -72,11 +95,8 @@ impl Iterator for Entries<'_> {
 
     fn next(&mut self) -> Option<Entry> {
         self.count = self.count.checked_sub(1)?;
-        let entry = Entry {
-            key: u32::read_at(self.bytes, 0),
-            value: u32::read_at(self.bytes, 4),
-        };
-        self.bytes = past(self.bytes, 8);
+        let (entry, rest) = split_entry(self.bytes);
+        self.bytes = rest;
         Some(entry)
     }
 }

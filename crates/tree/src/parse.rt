@@ -19,7 +19,8 @@ fn two_pages(p: u8, q: u8) -> bool
 fn insert_of(page: u8, word: &[u8]) -> Option<Step>
     ensures { result ≡ insert_from page word.now }
 {
-    (page <= LAST_PAGE && word.len() == 8).then_some(Step::Insert {
+    let word: &[u8; 8] = word.as_array()?;
+    (page <= LAST_PAGE).then_some(Step::Insert {
         page,
         key: u32::read_at(word, 0),
         value: u32::read_at(word, 4),
