@@ -1,7 +1,7 @@
 // Walks over listed operations.
 ghost use Rattle.std.specs.Prelude.{◌≡◌};
 ghost use Rattle.graph.specs.Listing.{writes_inside};
-ghost use Rattle.tables.specs.DirtyOps.{counts, highest_among};
+ghost use Rattle.tables.specs.DirtyOps.{counts, higher, highest_among};
 
 use graph::Op;
 
@@ -19,6 +19,13 @@ fn is_counted(o: Op, set: u64, from: u32) -> bool
     o.number >= from && writes_into(o, set)
 }
 
+// The higher of the best number so far and n.
+fn raised(best: Option<u32>, n: u32) -> Option<u32>
+    ensures { result ≡ higher best n }
+{
+    Some(best.map_or(n, |m| m.max(n)))
+}
+
 // The highest number, at or above `from`, of an operation that writes a page of the set.
 pub fn highest(ops: &[Op], set: u64, from: u32) -> Option<u32>
     ensures { result ≡ highest_among set from ops.now }
@@ -26,5 +33,5 @@ pub fn highest(ops: &[Op], set: u64, from: u32) -> Option<u32>
     ops.iter()
         .filter(|o| is_counted(**o, set, from))
         .map(|o| o.number)
-        .max()
+        .fold(None, |best, n| raised(best, n))
 }
