@@ -5,31 +5,36 @@ mod chip;
 mod report;
 mod survey;
 
+use arrayvec::ArrayVec;
 use chip::Cut;
 use media::Left;
 use std::io;
 use stores::{Journal, Shadow, Way};
+use survey::Seen;
 
 // The writes of an install are counted by trying: a fuse that does not blow ends the round.
 const MOST_WRITES: u64 = 64;
+
+// Each write is cut twice.
+const MOST_CUTS: usize = 128;
 
 // The store that is cut in two rounds.
 const JOURNAL: &'static str = "journal store";
 
 // Every cut of one install; the install before it may itself have been cut, as `earlier` says.
 fn round<W: Way>(rt: &HostRuntime, store: &str, earlier: Option<Cut>) -> io::Result<()> {
-    let mut all = Vec::new(rt.alloc());
+    let mut all: ArrayVec<Seen, MOST_CUTS> = ArrayVec::new();
     for write in 0..MOST_WRITES {
         for left in [Left::Old, Left::New] {
             let cut = Cut { write, left };
             let Some(seen) = chip::cut_once::<W>(earlier, cut) else {
-                return report::closing(rt, store, &all);
+                return report::closing(rt, store, all.as_slice());
             };
             report::line(rt, &cut, &seen)?;
-            all.push(seen)?;
+            let _ = all.try_push(seen);
         }
     }
-    report::closing(rt, store, &all)
+    report::closing(rt, store, all.as_slice())
 }
 
 // Every cut of an install on a new store, under its name.

@@ -6,8 +6,9 @@ use std::fmt;
 use stores::PageStore;
 
 // What became of the pages of a set.
-#[derive(Clone, Copy, PartialEq, Eq)]
+#[derive(Clone, Copy, Default, PartialEq, Eq)]
 pub enum Outcome {
+    #[default]
     AllOld,
     AllNew,
     Torn,
@@ -23,7 +24,7 @@ impl fmt::Display for Outcome {
     }
 }
 
-#[derive(Clone, Copy)]
+#[derive(Clone, Copy, Default)]
 pub struct Seen {
     // the block at which the power failed
     pub block: u64,

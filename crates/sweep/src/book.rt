@@ -1,12 +1,15 @@
 // The book of a life: the operations that were accepted, in order, and how many of them are logged.
 use crate::model::Model;
+use arrayvec::ArrayVec;
 use media::Left;
-use std::alloc::{AllocError, Global};
 
 // The number of the first operation: the log's blocks come round at operation 128.
 pub const FIRST: u32 = 120;
 
-#[derive(Clone, Copy)]
+// The most operations of a life.
+const MOST: usize = 64;
+
+#[derive(Clone, Copy, Default)]
 struct Operation {
     number: u32,
     body: &'static [u8],
@@ -21,15 +24,15 @@ impl Operation {
 
 #[derive(Drop)]
 pub struct Book {
-    operations: Vec<Operation>,
+    operations: ArrayVec<Operation, MOST>,
     logged: usize,
     acknowledged: usize,
 }
 
 impl Book {
-    pub fn new(heap: Global) -> Book {
+    pub fn new() -> Book {
         Book {
-            operations: Vec::new(heap),
+            operations: ArrayVec::new(),
             logged: 0,
             acknowledged: 0,
         }
@@ -42,11 +45,10 @@ impl Book {
             .map_or(FIRST, |last| last.number.saturating_add(1))
     }
 
-    // A run was accepted.
-    pub fn accept(&mut self, body: &'static [u8]) -> Result<(), AllocError> {
+    // A run was accepted. Says whether there was room for its operation.
+    pub fn accept(&mut self, body: &'static [u8]) -> bool {
         let number = self.next();
-        self.operations.push(Operation { number, body })?;
-        Ok(())
+        self.operations.try_push(Operation { number, body }).is_ok()
     }
 
     // A force was accepted: all operations are logged, and acknowledged.

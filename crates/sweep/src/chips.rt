@@ -2,7 +2,6 @@
 use crate::lives::{Course, live};
 use crate::plan::Plan;
 use media::{Left, MemoryMedium, Partition};
-use std::alloc::{AllocError, Global};
 use std::fmt;
 use stores::{MediumStore, Way};
 use volume::Down;
@@ -53,16 +52,12 @@ fn part<'a>(bytes: &'a mut [u8], chip: Chip, cut: Option<Cut>) -> Partition<Memo
 }
 
 // A life on new chips; none where the power fails in the format.
-pub fn run<W: Way>(
-    heap: Global,
-    cut: Option<Cut>,
-    plan: &mut Plan,
-) -> Result<Option<Course>, AllocError> {
+pub fn run<W: Way>(cut: Option<Cut>, plan: &mut Plan) -> Option<Course> {
     let mut log = [0u8; CHIP];
     let mut pages = [0u8; CHIP];
     let log = part(&mut log, Chip::Log, cut);
     let pages = part(&mut pages, Chip::Pages, cut);
     let store: MediumStore<_, W> = MediumStore::new(pages);
     let left = cut.map_or(Left::Old, |cut| cut.left);
-    live(heap, Down::new(log, store), plan, left)
+    live(Down::new(log, store), plan, left)
 }

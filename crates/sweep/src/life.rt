@@ -6,7 +6,6 @@ use crate::script::Call;
 use faults::Fault;
 use kinds::PageKind;
 use media::{BLOCK, Left, Medium};
-use std::alloc::{AllocError, Global};
 use std::fmt;
 use std::ops::ControlFlow;
 use stores::PageStore;
@@ -58,9 +57,9 @@ fn differs<L: Medium, S: PageStore>(up: &Up<PageKind, L, S>, model: &Model, page
 }
 
 impl<'a> Life<'a> {
-    pub fn new(heap: Global, plan: &'a mut Plan, left: Left) -> Life<'a> {
+    pub fn new(plan: &'a mut Plan, left: Left) -> Life<'a> {
         Life {
-            book: Book::new(heap),
+            book: Book::new(),
             plan,
             left,
             turn: 0,
@@ -100,13 +99,14 @@ impl<'a> Life<'a> {
         body: &'static [u8],
         expected: Result<(), Fault>,
         answer: Result<u32, Fault>,
-    ) -> Result<ControlFlow<()>, AllocError> {
+    ) -> ControlFlow<()> {
         let next = self.book.next();
         self.expect(answer == expected.map(|()| next));
         if answer.is_ok() {
-            self.book.accept(body)?;
+            let kept = self.book.accept(body);
+            self.expect(kept);
         }
-        Ok(flow(answer))
+        flow(answer)
     }
 
     fn forced(&mut self, answer: Result<u32, Fault>) -> ControlFlow<()> {
@@ -139,15 +139,15 @@ impl<'a> Life<'a> {
     fn flush_ready<L: Medium, S: PageStore>(
         &mut self,
         up: &mut Up<PageKind, L, S>,
-    ) -> Result<ControlFlow<()>, AllocError> {
-        let (page, number) = self.plan.choose(up, self.turn, self.number)?;
+    ) -> ControlFlow<()> {
+        let (page, number) = self.plan.choose(up, self.turn, self.number);
         self.turn = self.turn.saturating_add(1);
         self.number = number;
         match page {
-            Some(page) => Ok(self.answered(Ok(()), up.flush(page))),
+            Some(page) => self.answered(Ok(()), up.flush(page)),
             None => {
                 self.expect(false);
-                Ok(ControlFlow::Continue(()))
+                ControlFlow::Continue(())
             }
         }
     }
@@ -157,13 +157,13 @@ impl<'a> Life<'a> {
         &mut self,
         up: &mut Up<PageKind, L, S>,
         call: Call,
-    ) -> Result<ControlFlow<()>, AllocError> {
+    ) -> ControlFlow<()> {
         match call {
             Call::Run(body, expected) => self.ran(body, expected, up.run(body)),
-            Call::Force => Ok(self.forced(up.force())),
-            Call::Flush(page, expected) => Ok(self.answered(expected, up.flush(page))),
+            Call::Force => self.forced(up.force()),
+            Call::Flush(page, expected) => self.answered(expected, up.flush(page)),
             Call::FlushReady => self.flush_ready(up),
-            Call::Trim => Ok(self.answered(Ok(()), up.trim())),
+            Call::Trim => self.answered(Ok(()), up.trim()),
         }
     }
 }

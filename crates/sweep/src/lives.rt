@@ -5,7 +5,6 @@ use crate::plan::Plan;
 use crate::script::{AFTER, Call, DAYS};
 use kinds::PageKind;
 use media::{Left, Medium};
-use std::alloc::{AllocError, Global};
 use stores::PageStore;
 use volume::{Down, Up};
 
@@ -38,13 +37,13 @@ fn make_all<L: Medium, S: PageStore>(
     up: &mut Up<PageKind, L, S>,
     script: &[Call],
     life: &mut Life,
-) -> Result<Option<usize>, AllocError> {
+) -> Option<usize> {
     for (i, call) in script.iter().enumerate() {
-        if life.make(up, *call)?.is_break() {
-            return Ok(Some(i));
+        if life.make(up, *call).is_break() {
+            return Some(i);
         }
     }
-    Ok(None)
+    None
 }
 
 // Mounts, makes the calls of one day and stops.
@@ -52,50 +51,49 @@ fn one_day<L: Medium + Drop, S: PageStore + Drop>(
     down: Down<PageKind, L, S>,
     script: &[Call],
     life: &mut Life,
-) -> Result<(Down<PageKind, L, S>, u32, Option<usize>), AllocError> {
+) -> (Down<PageKind, L, S>, u32, Option<usize>) {
     let (mut up, redone) = down.mount();
     life.mounted(&up);
-    let died = make_all(&mut up, script, life)?;
+    let died = make_all(&mut up, script, life);
     let (down, _) = up.stop();
-    Ok((down, redone, died))
+    (down, redone, died)
 }
 
 // All days, up to the call in which the power fails.
 fn days<L: Medium + Drop, S: PageStore + Drop>(
     down: Down<PageKind, L, S>,
     life: &mut Life,
-) -> Result<(Down<PageKind, L, S>, Option<Place>), AllocError> {
+) -> (Down<PageKind, L, S>, Option<Place>) {
     let mut down = down;
     for (day, script) in DAYS.iter().enumerate() {
-        let (next, _, died) = one_day(down, script, life)?;
+        let (next, _, died) = one_day(down, script, life);
         down = next;
         if let Some(call) = died {
-            return Ok((down, Some(Place { day, call })));
+            return (down, Some(Place { day, call }));
         }
     }
-    Ok((down, None))
+    (down, None)
 }
 
 // A life from the format on; none where the power fails in the format.
 pub fn live<L: Medium + Drop, S: PageStore + Drop>(
-    heap: Global,
     down: Down<PageKind, L, S>,
     plan: &mut Plan,
     left: Left,
-) -> Result<Option<Course>, AllocError> {
+) -> Option<Course> {
     let mut down = down;
     if down.format(FIRST).is_err() {
-        return Ok(None);
+        return None;
     }
-    let mut life = Life::new(heap, plan, left);
-    let (down, died) = days(down, &mut life)?;
-    let (down, redone, _) = one_day(down, &AFTER, &mut life)?;
+    let mut life = Life::new(plan, left);
+    let (down, died) = days(down, &mut life);
+    let (down, redone, _) = one_day(down, &AFTER, &mut life);
     let (up, _) = down.mount();
     life.mounted(&up);
     let trouble = life.trouble();
-    Ok(Some(Course {
+    Some(Course {
         died,
         redone,
         trouble,
-    }))
+    })
 }

@@ -15,17 +15,28 @@ use chips::{Chip, Cut};
 use lives::Course;
 use media::Left;
 use plan::Plan;
-use std::alloc::AllocError;
 use std::ops::ControlFlow;
 use std::{fmt, io};
 use stores::{Journal, Shadow, Way};
-use tally::{Seen, Tally, recovered};
+use tally::Tally;
 
 // The orders of flushes: enough for every order of the groups that may go on each day.
 const ORDERS: usize = 6;
 
 // More writes than a life has on a chip.
 const MOST_WRITES: u64 = 512;
+
+// How many writes the format makes on a chip: so many can pass before one dies outside it. None if it makes more than a life has.
+fn format_writes<W: Way>(chip: Chip) -> Option<u64> {
+    for write in 0..MOST_WRITES {
+        let left = Left::Old;
+        let cut = Cut { chip, write, left };
+        if chips::run::<W>(Some(cut), &mut Plan::new(0)).is_some() {
+            return Some(write);
+        }
+    }
+    None
+}
 
 // What the sweep has seen.
 #[derive(Drop)]
@@ -38,21 +49,8 @@ impl<'a> Sweep<'a> {
     fn new(rt: &'a HostRuntime) -> Sweep<'a> {
         Sweep {
             rt,
-            tally: Tally::new(rt.alloc()),
+            tally: Tally::default(),
         }
-    }
-
-    // How many writes the format makes on a chip: so many can pass before one dies outside it. None if it makes more than a life has.
-    fn format_writes<W: Way>(&self, chip: Chip) -> Result<Option<u64>, AllocError> {
-        for write in 0..MOST_WRITES {
-            let left = Left::Old;
-            let mut plan = Plan::new(self.rt.alloc(), 0);
-            let cut = Cut { chip, write, left };
-            if chips::run::<W>(self.rt.alloc(), Some(cut), &mut plan)?.is_some() {
-                return Ok(Some(write));
-            }
-        }
-        Ok(None)
     }
 
     // Enters that something was wrong.
@@ -71,7 +69,7 @@ impl<'a> Sweep<'a> {
 
     // One cut; the cuts break off where the write is no more of the life.
     fn one_cut<W: Way>(&mut self, cut: Cut, plan: &mut Plan) -> io::Result<ControlFlow<()>> {
-        let Some(course) = chips::run::<W>(self.rt.alloc(), Some(cut), plan)? else {
+        let Some(course) = chips::run::<W>(Some(cut), plan) else {
             self.blame(Some(cut), &"the format died")?;
             return Ok(ControlFlow::Continue(()));
         };
@@ -79,13 +77,7 @@ impl<'a> Sweep<'a> {
             return Ok(ControlFlow::Break(()));
         };
         self.judge(Some(cut), &course)?;
-        let (redone, good) = (course.redone, course.is_good());
-        self.tally.seen.push(Seen {
-            place,
-            cut,
-            redone,
-            good,
-        })?;
+        self.tally.enter(place, cut, &course);
         Ok(ControlFlow::Continue(()))
     }
 
@@ -104,8 +96,8 @@ impl<'a> Sweep<'a> {
 
     // The life without a cut, which makes the choices of an order; then every cut of it.
     fn one_order<W: Way>(&mut self, log: u64, pages: u64, order: usize) -> io::Result<()> {
-        let mut plan = Plan::new(self.rt.alloc(), order);
-        let Some(course) = chips::run::<W>(self.rt.alloc(), None, &mut plan)? else {
+        let mut plan = Plan::new(order);
+        let Some(course) = chips::run::<W>(None, &mut plan) else {
             return self.blame(None, &"the format was refused");
         };
         self.judge(None, &course)?;
@@ -117,8 +109,8 @@ impl<'a> Sweep<'a> {
     // All orders.
     fn all_orders<W: Way>(&mut self, store: &str) -> io::Result<()> {
         let rt = self.rt;
-        let log = self.format_writes::<W>(Chip::Log)?;
-        let pages = self.format_writes::<W>(Chip::Pages)?;
+        let log = format_writes::<W>(Chip::Log);
+        let pages = format_writes::<W>(Chip::Pages);
         let (Some(log), Some(pages)) = (log, pages) else {
             return self.blame(None, &"the format has more writes than were cut");
         };
@@ -140,11 +132,9 @@ fn main(rt: HostRuntime) -> io::Result<()> {
     journal.all_orders::<Journal>("journal store")?;
     let mut shadow = Sweep::new(&rt);
     shadow.all_orders::<Shadow>("shadow store")?;
-    let mut all = Tally::new(rt.alloc());
-    all.add(&journal.tally)?;
-    all.add(&shadow.tally)?;
-    let cuts = all.seen.len();
-    let recovered = recovered(&all.seen);
-    let wrong = all.wrong;
+    let (journal, shadow) = (&journal.tally, &shadow.tally);
+    let cuts = journal.cuts.saturating_add(shadow.cuts);
+    let recovered = journal.recovered.saturating_add(shadow.recovered);
+    let wrong = journal.wrong.saturating_add(shadow.wrong);
     println!(rt; "{cuts} cuts, {recovered} recoveries, {wrong} wrong")
 }

@@ -1,17 +1,20 @@
 // Which of the groups that may go is flushed, at each flush that leaves the choice.
 use crate::script::LOWEST;
+use arrayvec::ArrayVec;
 use kinds::PageKind;
 use media::Medium;
 use sets::lowest;
-use std::alloc::{AllocError, Global};
 use stores::PageStore;
 use volume::Up;
+
+// The most choices of a life.
+const MOST: usize = 16;
 
 // The choices of one order, as far as a life has made them: the lowest page of each group, if there was one.
 #[derive(Drop)]
 pub struct Plan {
     order: usize,
-    choices: Vec<Option<u32>>,
+    choices: ArrayVec<Option<u32>, MOST>,
 }
 
 // Whether a page is the lowest of a group that has none directly before it.
@@ -34,10 +37,10 @@ fn nth<L: Medium, S: PageStore>(up: &Up<PageKind, L, S>, n: usize) -> Option<u32
 }
 
 impl Plan {
-    pub fn new(heap: Global, order: usize) -> Plan {
+    pub fn new(order: usize) -> Plan {
         Plan {
             order,
-            choices: Vec::new(heap),
+            choices: ArrayVec::new(),
         }
     }
 
@@ -46,23 +49,23 @@ impl Plan {
     }
 
     pub fn choices(&self) -> &[Option<u32>] {
-        &self.choices
+        self.choices.as_slice()
     }
 
     // The page to flush, where `left` is what the choices of the day so far have left of the order's number; and what is left of it now.
-    // A choice that an earlier life has made stays.
+    // A choice that an earlier life has made stays. No page where there is no room for the choice.
     pub fn choose<L: Medium, S: PageStore>(
         &mut self,
         up: &Up<PageKind, L, S>,
         turn: usize,
         left: usize,
-    ) -> Result<(Option<u32>, usize), AllocError> {
+    ) -> (Option<u32>, usize) {
         if let Some(page) = self.choices.get(turn) {
-            return Ok((*page, left));
+            return (*page, left);
         }
         let n = count(up).max(1);
         let page = nth(up, left % n);
-        self.choices.push(page)?;
-        Ok((page, left / n))
+        let kept = self.choices.try_push(page);
+        (kept.ok().and(page), left / n)
     }
 }

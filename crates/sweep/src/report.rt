@@ -1,10 +1,9 @@
 // The lines that are printed.
-use crate::chips::{Chip, Cut};
+use crate::chips::Cut;
 use crate::lives::Place;
 use crate::plan::Plan;
 use crate::script::{Call, DAYS};
-use crate::tally::{Seen, Tally, count, recovered};
-use media::Left;
+use crate::tally::{Line, Tally};
 use std::fmt::Display;
 use std::io;
 
@@ -35,18 +34,14 @@ pub fn say<T: Display>(rt: &HostRuntime, cut: Option<Cut>, what: &T) -> io::Resu
 }
 
 // The line of a call, with the cuts in it, if there were any.
-fn line(rt: &HostRuntime, place: Place, call: Call, seen: &[Seen]) -> io::Result<()> {
-    let least = seen.iter().map(|seen| seen.redone).min();
-    let most = seen.iter().map(|seen| seen.redone).max();
-    let (Some(least), Some(most)) = (least, most) else {
+fn line(rt: &HostRuntime, place: Place, call: Call, seen: &Line) -> io::Result<()> {
+    let Some((least, most)) = seen.redone else {
         return Ok(());
     };
     let (day, i) = (place.day.saturating_add(1), place.call.saturating_add(1));
-    let a = count(seen, Chip::Log, Left::Old);
-    let b = count(seen, Chip::Log, Left::New);
-    let c = count(seen, Chip::Pages, Left::Old);
-    let d = count(seen, Chip::Pages, Left::New);
-    let recovered = recovered(seen);
+    let (a, b) = (seen.log_old, seen.log_new);
+    let (c, d) = (seen.pages_old, seen.pages_new);
+    let recovered = seen.recovered;
     print!(rt; "  {day:>3} {i:>4}  {call:<17} {a:>4} {b:>4} {c:>6} {d:>4}")?;
     println!(rt; " {recovered:>10} {least:>5} to {most}")
 }
@@ -54,10 +49,10 @@ fn line(rt: &HostRuntime, place: Place, call: Call, seen: &[Seen]) -> io::Result
 pub fn table(rt: &HostRuntime, tally: &Tally) -> io::Result<()> {
     println!(rt; "                             log cuts    store cuts")?;
     println!(rt; "  day call                    old  new    old  new  recovered   redone")?;
-    for (day, calls) in DAYS.iter().enumerate() {
-        for (i, call) in calls.iter().enumerate() {
+    for (day, (calls, lines)) in DAYS.iter().zip(&tally.lines).enumerate() {
+        for (i, (call, seen)) in calls.iter().zip(lines).enumerate() {
             let place = Place { day, call: i };
-            line(rt, place, *call, &tally.of(rt.alloc(), place)?)?;
+            line(rt, place, *call, seen)?;
         }
     }
     Ok(())

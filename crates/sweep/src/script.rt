@@ -109,6 +109,9 @@ const THIRD_DAY: [Call; 23] = [
     Call::Trim,
 ];
 
+// The most calls of a day.
+pub const LONGEST: usize = 32;
+
 // The calls of all days.
 pub const DAYS: [&'static [Call]; 3] = [&FIRST_DAY, &SECOND_DAY, &THIRD_DAY];
 
