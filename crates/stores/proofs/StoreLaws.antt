@@ -143,33 +143,33 @@ empty_installs m plan images long room set' z = (
 -- what a way of installing promises of a run of its writes
 abbrev pub Done : (List (List ℕ) → ℕ → List ℕ → List Write) → (List (List ℕ) → ℕ → List ℕ) → Device → Device → ℕ → List ℕ → Option Report → Type 0
 Done writes plan m m' set' images o =
-    Ran m (writes m.blocks set' images) o m' × (Whole m → 129 ≤ block_count m → Installed (store_on m) (plan m.blocks set') set' images o (store_on m'))
+    Ran m (writes m.blocks set' images) o m' × (129 ≤ block_count m → Installed (store_on m) (plan m.blocks set') set' images o (store_on m'))
 
 module _ (writes : List (List ℕ) → ℕ → List ℕ → List Write) (plan : List (List ℕ) → ℕ → List ℕ) (m : Device) (set' : ℕ) (images : List ℕ) (long : length images ≡ 16384) where
   -- nothing is written for an empty set
   pub idle : set' ≡ 0 → writes m.blocks set' images ≡ [] → Done writes plan m m set' images None
   idle z none = (
     subst (λ ws. Ran m ws None m) (sym none) done,
-    λ whole room. empty_installs m (plan m.blocks set') images long room set' z,
+    λ room. empty_installs m (plan m.blocks set') images long room set' z,
   )
 
   -- a run of writes that install the set
   started : (m' : Device) (o : Option Report) → (set' ≡ 0 → ⊥) → blocks_in (writes m.blocks set' images) ≡ plan m.blocks set' → (ws : List Write) → writes m.blocks set' images ≡ ws → 0 < length ws
-      → (Whole m → 129 ≤ block_count m → Installs m.blocks ws (installed set' images (page_in m.blocks))) → Ran m ws o m' → Done writes plan m m' set' images o
+      → (129 ≤ block_count m → Installs m.blocks ws (installed set' images (page_in m.blocks))) → Ran m ws o m' → Done writes plan m m' set' images o
   started m' o some planned ws parts written installs r = (
     subst (λ vs. Ran m vs o m') (sym parts) r,
-    λ whole room.
+    λ room.
         subst (λ bs. Installed (store_on m) bs set' images o (store_on m')) (ap blocks_in (sym parts) ∙ planned)
-        (ran-installs m m' room set' images long some ws written (installs whole room) o r),
+        (ran-installs m m' room set' images long some ws written (installs room) o r),
   )
 
 module _ (m : Device) (set' : ℕ) (images : List ℕ) (long : length images ≡ 16384) (m' : Device) (some : set' ≡ 0 → ⊥) (within : set' < 2 ^ 64) (o : Option Report) where
-  pub journal_done : Ran m (settle_writes m.blocks ++ (image_writes every_page set' (pictured images) ++ (set_write set' ∷ (image_writes 0 set' (pictured images) ++ (set_write 0 ∷ []))))) o m'
+  pub journal_done : Whole m → Ran m (settle_writes m.blocks ++ (image_writes every_page set' (pictured images) ++ (set_write set' ∷ (image_writes 0 set' (pictured images) ++ (set_write 0 ∷ []))))) o m'
       → Done journal_writes journal_plan m m' set' images o
-  journal_done r =
+  journal_done whole r =
       started journal_writes journal_plan m set' images long m' o some (journal_plan_lem m.blocks set' images) _ (journal_some m.blocks set' images some)
       (longer (settle_writes m.blocks) (image_writes every_page set' (pictured images)) (set_write set') (image_writes 0 set' (pictured images) ++ (set_write 0 ∷ [])))
-      (λ whole room. journal_installs m.blocks room set' within images long whole some) r
+      (λ room. journal_installs m.blocks room set' within images long whole some) r
     where
       longer : (us vs : List Write) (w : Write) (ws : List Write) → 0 < length (us ++ (vs ++ (w ∷ ws)))
       longer us vs w ws = omega (arith, length-append us (vs ++ (w ∷ ws)), length-append vs (w ∷ ws))
@@ -179,7 +179,7 @@ module _ (m : Device) (set' : ℕ) (images : List ℕ) (long : length images ≡
   shadow_done upper low here r =
       started shadow_writes shadow_plan m set' images long m' o some (shadow_plan_lem m.blocks set' images) _ (shadow_some m.blocks set' images some)
       (longer (image_writes (bit_xor (set_in m.blocks) every_page) set' (pictured images)) (set_write (bit_xor (set_in m.blocks) set')))
-      (λ whole room. shadow_installs m.blocks room set' within images long (subst (λ u. u < 2 ^ 64) here low) some)
+      (λ room. shadow_installs m.blocks room set' within images long (subst (λ u. u < 2 ^ 64) here low) some)
       (subst (λ u. Ran m (image_writes (bit_xor u every_page) set' (pictured images) ++ (set_write (bit_xor u set') ∷ [])) o m') here r)
     where
       longer : (us : List Write) (w : Write) → 0 < length (us ++ (w ∷ []))
@@ -190,8 +190,8 @@ check-passed : (m : Device) (images : List ℕ) → None ≡ install_check m ima
 check-passed m images e = grind (arith, nat_tests)
 
 pub checked : (writes : List (List ℕ) → ℕ → List ℕ → List Write) (plan : List (List ℕ) → ℕ → List ℕ) (m m' : Device) (set' : ℕ) (images all : List ℕ) (o : Option Report)
-    → None ≡ install_check m images → all ≡ images → Whole m → Done writes plan m m' set' all o
+    → None ≡ install_check m images → all ≡ images → Done writes plan m m' set' all o
     → Installed (store_on m) (plan m.blocks set') set' images o (store_on m') × Carried m (writes m.blocks set' images) images o m'
-checked writes plan m m' set' images all o passed same whole r =
+checked writes plan m m' set' images all o passed same r =
     let here : Done writes plan m m' set' images o = subst (λ x. Done writes plan m m' set' x o) same r in
-    (here.1 whole (check-passed m images passed), rw (sym passed) here.0)
+    (here.1 (check-passed m images passed), rw (sym passed) here.0)

@@ -1,9 +1,9 @@
 // The blocks of a store: images in 0 to 127, two for each page, and a set in block 128.
-ghost use Rattle.std.specs.Prelude.{◌≡◌, ◌<◌, ◌≤◌, [], ◌∷◌, None, not, nat_le, IfOk, OnOk};
+ghost use Rattle.std.specs.Prelude.{◌≡◌, ◌<◌, ◌≤◌, [], ◌∷◌, None, not, nat_le, IfOk};
 ghost use Rattle.sets.specs.Sets.{has};
 ghost use Rattle.faults.specs.Faults.{refusal, report};
 ghost use Rattle.faults.specs.declared.fault.Fault.TheVariants.{TooShort};
-ghost use Rattle.media.specs.Media.{Whole, block_count, block_at, check};
+ghost use Rattle.media.specs.Media.{block_count, block_at, check};
 ghost use Rattle.media.specs.Plans.{Ran};
 ghost use Rattle.stores.specs.Images.{image_of, pictured};
 ghost use Rattle.stores.specs.Layout.{slot, set_in, block_of_set};
@@ -177,7 +177,6 @@ pub(crate) fn install_allowed<'a, M: Medium>(
 ) -> Result<&'a [u8; IMAGES], Fault>
     ensures answer { refusal result ≡ install_check (M.Medium.model medium.now) images.now }
     ensures images { IfOk result (λ all. all.now ≡ images.now) }
-    ensures whole { OnOk result (Whole (M.Medium.model medium.now)) }
 {
     let all = images.as_array().ok_or(Fault::WrongLength(images.len()))?;
     long_enough(medium)?;
@@ -186,8 +185,7 @@ pub(crate) fn install_allowed<'a, M: Medium>(
 
 // A medium with fewer blocks than a store needs makes it short.
 fn long_enough<M: Medium>(medium: &M) -> Result<(), Fault>
-    ensures answer { refusal result ≡ check (not (nat_le 129 (block_count (M.Medium.model medium.now)))) (report TooShort) None }
-    ensures whole { Whole (M.Medium.model medium.now) }
+    ensures { refusal result ≡ check (not (nat_le 129 (block_count (M.Medium.model medium.now)))) (report TooShort) None }
 {
     if medium.count() < STORE_BLOCKS {
         return Err(Fault::TooShort);

@@ -21,6 +21,8 @@ impl Way for Journal {
         if set == 0 {
             return Ok(());
         }
+        // Called for what it promises of the blocks: each has 256 bytes.
+        let _ = medium.count();
         settle(medium)?;
         write_images(medium, EVERY_PAGE, set, images)?;
         write_set(medium, set)?;

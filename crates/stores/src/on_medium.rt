@@ -1,7 +1,7 @@
 // A page store on a medium of 129 blocks or more, and the ways in which it can install.
 ghost use Rattle.std.specs.Prelude.{◌≡◌, ℕ, ◌≤◌, List};
 ghost use Rattle.faults.specs.Faults.{refusal};
-ghost use Rattle.media.specs.Media.{Whole, block_count};
+ghost use Rattle.media.specs.Media.{block_count};
 ghost use Rattle.media.specs.Media.{powered as powered_medium};
 ghost use Rattle.media.specs.Plans.{Write, Ran};
 ghost use Rattle.stores.specs.Stores.{store_on, Installed, powered, Carried};
@@ -23,7 +23,7 @@ pub trait Way {
     // Makes these writes. Where the power fails the pages of the set are all old or all new.
     fn install<M: Medium>(medium: &mut M, set: u64, images: &[u8; IMAGES]) -> Result<(), Fault>
         ensures ran { Ran (M.Medium.model medium.old) (writes (M.Medium.model medium.old).blocks set images.now) (refusal result) (M.Medium.model medium.new) }
-        ensures installed { Whole (M.Medium.model medium.old) → 129 ≤ block_count (M.Medium.model medium.old) → Installed (store_on (M.Medium.model medium.old)) (plan (M.Medium.model medium.old).blocks set) set images.now (refusal result) (store_on (M.Medium.model medium.new)) };
+        ensures installed { 129 ≤ block_count (M.Medium.model medium.old) → Installed (store_on (M.Medium.model medium.old)) (plan (M.Medium.model medium.old).blocks set) set images.now (refusal result) (store_on (M.Medium.model medium.new)) };
 }
 
 // A page store on a medium, which installs in the way W.
